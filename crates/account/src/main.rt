@@ -22,16 +22,14 @@ fn fail(system: &System, what: &[u8], path: &[u8]) {
 fn print(system: &mut System, image: &[u8]) {
     let mut text = [0u8; 4096];
     let printed = accounts::account(image, 4, 15, &mut text);
-    let answer = printed.answer;
-    if let Answer::ShortBuffer = answer {
+    if let Answer::ShortBuffer = printed.answer {
         io::write_all(
             STDERR_FILENO,
             b"account: the text is longer than its buffer\n",
         );
         return;
     }
-    let n = printed.length;
-    if !system.write_all(STDOUT_FILENO, &text[..n]) {
+    if !system.write_all(STDOUT_FILENO, &text[..printed.length]) {
         fail(system, b"write ", b"standard output");
     }
 }
@@ -43,12 +41,10 @@ fn account(system: &mut System, path: &[u8]) {
         return;
     };
     let mut image = [0u8; 16385];
-    let filled = qbx_files::fill(system, &mut file, &mut image);
-    if !filled.whole {
+    let Ok(n) = qbx_files::fill(system, &mut file, &mut image) else {
         fail(system, b"read ", path);
         return;
-    }
-    let n = filled.count;
+    };
     print(system, &image[..n]);
 }
 
@@ -56,11 +52,7 @@ fn main(rt: HostRuntime) {
     let mut system = System::new(rt);
     let mut path = io::buffer();
     let n = system.arg(1, &mut path);
-    if n == 0 {
-        usage();
-        return;
-    }
-    if system.arg_count() != 2 {
+    if n == 0 || system.arg_count() != 2 {
         usage();
         return;
     }

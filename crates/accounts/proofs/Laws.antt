@@ -12,8 +12,8 @@ use Rattle.index.specs.declared.Shown.{Shown}
 use Rattle.index.specs.Shows.{shown_of, shown_lines}
 use Rattle.index.specs.Tables.{list_of}
 use Rattle.index.specs.Lines.{shown_lines_lem}
-use Rattle.prognosis.specs.declared.Prognosis.{Prognosis}
-use Rattle.prognosis.specs.declared.Prognosis.TheVariants.{Recovers, Fails}
+use Rattle.std.specs.Prelude.{Result, Ok, Err}
+use Rattle.prognosis.specs.declared.FailedCondition.{FailedCondition}
 use Rattle.prognosis.specs.Foretold.{prognosis_of}
 use Rattle.prognosis.proofs.Laws.{line_recovers, line_fails}
 use Rattle.accounts.specs.Foretells.{foretold}
@@ -30,12 +30,12 @@ right_account N B s h = rw h
 
 -- ---- the account
 
-last_is : (N B : ℕ) (l : List Segment) (p : Prognosis) → p ≡ prognosis_of N B l → foretold p ≡ last_line N B l
+last_is : (N B : ℕ) (l : List Segment) (p : Result ℕ FailedCondition) → p ≡ prognosis_of N B l → foretold p ≡ last_line N B l
 unfolding foretold
-last_is N B l (Recovers n) e = sym (line_recovers N B l (Recovers n) e n refl)
-last_is N B l (Fails k) e = sym (line_fails N B l (Fails k) e k refl)
+last_is N B l (Ok n) e = sym (line_recovers N B l (Ok n) e n refl)
+last_is N B l (Err c) e = sym (line_fails N B l (Err c) e c.0 refl)
 
-pub composed : (N B : ℕ) (s : Image) (table : List Shown) (p : Prognosis) → take N table ≡ map shown_of (shown N B (segments_of N B s)) → p ≡ prognosis_of N B (segments_of N B s)
+pub composed : (N B : ℕ) (s : Image) (table : List Shown) (p : Result ℕ FailedCondition) → take N table ≡ map shown_of (shown N B (segments_of N B s)) → p ≡ prognosis_of N B (segments_of N B s)
     → shown_lines 0 (take N table) ++ (block_lines (by_block (list_of N B s)) ++ foretold p) ≡ account_on N B (segments_of N B s)
 unfolding account_on list_of
 composed N B s table p e q = rw (e, shown_lines_lem 0 (shown N B (segments_of N B s)), last_is N B (segments_of N B s) p q)

@@ -5,7 +5,7 @@ ghost use Rattle.std.specs.Prelude.{◌≡◌, length};
 ghost use Rattle.model.specs.Slot.{slot_of, entry_of};
 ghost use Rattle.adding.specs.Adding.{Going, LivePage, Opened, Added};
 
-use model::{SegmentNumber, SlotPlace};
+use model::{Geometry, SegmentNumber, SlotPlace};
 
 // How many steps open a segment, and how many write a slot besides one for each byte of contents.
 pub const OPENING: u64 = 21;
@@ -22,26 +22,20 @@ pub struct Progress {
     pub steps: u64,
 }
 
-fn wide(x: u8) -> usize
-    ensures { result ≡ x }
-{
-    x as usize
-}
-
 // A top with an empty slot. The next segment is opened only here, where an entry needs it: no empty one is left at the end.
 // A fresh image has no recovery's erase to tell, so that the total is 0 whatever the source's is.
-fn next_slot(target: &mut [u8], segments: usize, slots: usize, at: Progress) -> Progress
-    requires { Going segments slots at (length target.old) }
-    ensures { Opened segments slots at result target.old target.new }
+fn next_slot(target: &mut [u8], geometry: Geometry, at: Progress) -> Progress
+    requires { Going geometry.segments geometry.slots at (length target.old) }
+    ensures { Opened geometry.segments geometry.slots at result target.old target.new }
 {
     if at.free > 0 {
         return at;
     }
     let top = SegmentNumber(at.top.0 + 1);
-    let left = header_steps::open_header(target, segments, slots, 0, top, at.left);
+    let left = header_steps::open_header(target, geometry, 0, top, at.left);
     Progress {
         top,
-        free: slots,
+        free: geometry.slots,
         left,
         steps: at.steps + OPENING,
     }
@@ -50,21 +44,15 @@ fn next_slot(target: &mut [u8], segments: usize, slots: usize, at: Progress) -> 
 // Writes the page of a live slot to the next slot. It is programmed as it lies in the source: a live slot's bytes are those
 // that its block and contents would make up again. Whether all fit is asked before; were there too many, segments would be
 // taken in turn again, and the place lies inside the image all the same.
-pub fn add(
-    target: &mut [u8],
-    segments: usize,
-    slots: usize,
-    page: &[u8],
-    from: Progress,
-) -> Progress
-    requires { Going segments slots from (length target.old) × LivePage page.now }
-    ensures { Added segments slots (entry_of (slot_of page.now)) from result target.old target.new }
+pub fn add(target: &mut [u8], geometry: Geometry, page: &[u8], from: Progress) -> Progress
+    requires { Going geometry.segments geometry.slots from (length target.old) × LivePage page.now }
+    ensures { Added geometry.segments geometry.slots (entry_of (slot_of page.now)) from result target.old target.new }
 {
-    let at = next_slot(target, segments, slots, from);
+    let at = next_slot(target, geometry, from);
     let top = at.top;
-    let first = find::first_slot(segments, slots, top);
-    let place = SlotPlace(first.0 + (slots - at.free) * 256);
-    let length = wide(page[1]);
+    let first = find::first_slot(geometry, top);
+    let place = SlotPlace(first.0 + (geometry.slots - at.free) * 256);
+    let length = usize::from(page[1]);
     let left = slot::write_page(target, place, page, length, at.left);
     Progress {
         top,

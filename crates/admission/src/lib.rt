@@ -9,15 +9,9 @@ ghost use Rattle.admission.specs.Admission.{Admits};
 use model::{Answer, BlockNumber, Counted};
 use share_list::Part;
 
-// The tenant's share, which the block is of; or why the request is refused.
-#[derive(Clone, Copy)]
-pub enum Admitted {
-    Part(Part),
-    Refused(Answer),
-}
-
-// The size, the list of shares, the block's number, and whose it is, in this order. The list comes before the number since
-// nobody has a share in a wrong one, and the number before its owner since a number that no block has is nobody's.
+// The tenant's share, which the block is of; or why the request is refused: by the size, the list of shares, the block's
+// number, and whose it is, in this order. The list comes before the number since nobody has a share in a wrong one, and the
+// number before its owner since a number that no block has is nobody's.
 pub fn admit(
     image: &[u8],
     segments: usize,
@@ -25,22 +19,22 @@ pub fn admit(
     shares: &[u32],
     tenant: u32,
     block: BlockNumber,
-) -> Admitted
+) -> Result<Part, Answer>
     ensures { Admits segments slots shares.now image.now tenant block.0 result }
 {
     if !request::right_size(image.len(), segments, slots) {
-        return Admitted::Refused(Answer::Size);
+        return Err(Answer::Size);
     }
     if !share_list::shares_ok(shares, request::capacity(segments, slots)) {
-        return Admitted::Refused(Answer::Shares);
+        return Err(Answer::Shares);
     }
     if !request::number_ok(block) {
-        return Admitted::Refused(Answer::Number);
+        return Err(Answer::Number);
     }
     if !share_list::owns(shares, tenant, block) {
-        return Admitted::Refused(Answer::Foreign);
+        return Err(Answer::Foreign);
     }
-    Admitted::Part(share_list::share_of(shares, tenant))
+    Ok(share_list::share_of(shares, tenant))
 }
 
 // Whether a put would store one block more than the quota allows. One that is stored already takes no place of the quota.

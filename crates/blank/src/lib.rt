@@ -27,10 +27,8 @@ fn rest_blank(rest: &[u8]) -> bool
     ensures { result ≡ is_blank rest.now }
 {
     let mut joined: u8 = 255;
-    let mut i = 0;
-    while i < rest.len() {
-        joined = joined & rest[i];
-        i += 1;
+    for &byte in rest {
+        joined &= byte;
     }
     joined == 255
 }
@@ -60,17 +58,15 @@ fn leading_fours(bytes: &[u8]) -> usize
     ensures { result ≡ leading_blank (chunk (4 * (length bytes.now / 32)) 8 bytes.now) }
 {
     let fours = bytes.len() / 32;
-    let mut i = 0;
-    while i < fours {
+    for i in 0..fours {
         let at = i * 32;
         let end = at + 32;
         let k = leading_four(&bytes[at..end]);
         if k < 4 {
             return 4 * i + k;
         }
-        i += 1;
     }
-    4 * i
+    4 * fours
 }
 
 // The same of all whole groups.
@@ -78,19 +74,18 @@ fn leading(bytes: &[u8]) -> usize
     ensures { result ≡ leading_blank (chunk (length bytes.now / 8) 8 bytes.now) }
 {
     let whole = bytes.len() / 8;
-    let mut groups = leading_fours(bytes);
-    if groups < 4 * (bytes.len() / 32) {
-        return groups;
+    let before = leading_fours(bytes);
+    if before < 4 * (bytes.len() / 32) {
+        return before;
     }
-    while groups < whole {
+    for groups in before..whole {
         let at = groups * 8;
         let end = at + 8;
         if !group_blank(&bytes[at..end]) {
             return groups;
         }
-        groups += 1;
     }
-    groups
+    whole
 }
 
 // The same with a shorter last group. (`leading` is called in two places and so stays a call; the rest is small enough to
@@ -127,6 +122,6 @@ pub fn blank_test(bytes: &[u8]) -> BlankTest
     let before = blank_before(bytes);
     BlankTest {
         blank: before == all,
-        groups: flash::least(before + 1, all),
+        groups: (before + 1).min(all),
     }
 }

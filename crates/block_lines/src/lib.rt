@@ -6,7 +6,10 @@ ghost use Rattle.flash.specs.Pages.{Sized};
 ghost use Rattle.text.specs.Text.{text as ascii};
 ghost use Rattle.text.specs.Buffer.{Wrote, most_text};
 ghost use Rattle.account_text.specs.Account.{block_text, block_lines, by_block};
-ghost use Rattle.index.specs.Tables.{tables, Chain, AllStand, of_block, list_of, Indexed};
+ghost use Rattle.index.specs.Tables.{Chain, AllStand, of_block, list_of, Indexed};
+
+use index::Tables;
+use model::Geometry;
 
 // Of a live slot, its line but for the end.
 pub fn block_text(
@@ -39,28 +42,26 @@ fn block_line(text: &mut [u8], at: usize, block: u32, length: u32, segment: u32,
 // comes from the tables.
 fn chain_lines(
     image: &[u8],
-    segments: usize,
-    slots: usize,
-    nexts: &[u16; 65536],
-    lengths: &[u8; 65536],
+    geometry: Geometry,
+    tables: &Tables,
     first: u16,
     block: u32,
     text: &mut [u8],
     at: usize,
 ) -> usize
-    requires { Sized segments slots (length image.now) × (block < 65536) × Chain slots nexts.now lengths.now first (of_block block (list_of segments slots image.now)) × AllStand segments slots (of_block block (list_of segments slots image.now)) × (length (of_block block (list_of segments slots image.now)) < 65536) × (at + 80 * (length (of_block block (list_of segments slots image.now)) + 1) ≤ most_text) }
-    ensures { Wrote (block_lines (of_block block (list_of segments slots image.now))) text.old at text.new result × (result ≤ at + 80 * length (of_block block (list_of segments slots image.now))) }
+    requires { Sized geometry.segments geometry.slots (length image.now) × (block < 65536) × Chain geometry.slots tables.now.nexts tables.now.lengths first (of_block block (list_of geometry.segments geometry.slots image.now)) × AllStand geometry.segments geometry.slots (of_block block (list_of geometry.segments geometry.slots image.now)) × (length (of_block block (list_of geometry.segments geometry.slots image.now)) < 65536) × (at + 80 * (length (of_block block (list_of geometry.segments geometry.slots image.now)) + 1) ≤ most_text) }
+    ensures { Wrote (block_lines (of_block block (list_of geometry.segments geometry.slots image.now))) text.old at text.new result × (result ≤ at + 80 * length (of_block block (list_of geometry.segments geometry.slots image.now))) }
 {
-    let pages = slots as u32 + 1;
-    let mut page = first as usize;
+    let pages = geometry.slots as u32 + 1;
+    let mut page = usize::from(first);
     let mut end = at;
     while page != 0 {
-        let length = lengths[page] as u32;
+        let length = u32::from(tables.lengths[page]);
         let place = page as u32;
         let segment = place / pages;
         let slot = place % pages;
         end = block_line(text, end, block, length, segment, slot);
-        page = nexts[page] as usize;
+        page = usize::from(tables.nexts[page]);
     }
     end
 }
@@ -69,35 +70,20 @@ fn chain_lines(
 #[tactic(auto, unfolding(account_text::specs::Account::block_lines))]
 pub fn block_lines(
     image: &[u8],
-    segments: usize,
-    slots: usize,
-    firsts: &[u16; 65536],
-    nexts: &[u16; 65536],
-    lengths: &[u8; 65536],
+    geometry: Geometry,
+    tables: &Tables,
     text: &mut [u8],
     at: usize,
 ) -> usize
-    requires { Sized segments slots (length image.now) × Indexed segments slots image.now (tables firsts.now nexts.now lengths.now) × (at ≤ 100000) }
-    ensures { Wrote (block_lines (by_block (list_of segments slots image.now))) text.old at text.new result × (result ≤ at + 80 * 65536) }
+    requires { Sized geometry.segments geometry.slots (length image.now) × Indexed geometry.segments geometry.slots image.now tables.now × (at ≤ 100000) }
+    ensures { Wrote (block_lines (by_block (list_of geometry.segments geometry.slots image.now))) text.old at text.new result × (result ≤ at + 80 * 65536) }
 {
     let mut end = at;
-    let mut block: usize = 0;
-    while block < 65536 {
-        let first = firsts[block];
+    for block in 0..65536 {
+        let first = tables.firsts[block];
         if first != 0 {
-            end = chain_lines(
-                image,
-                segments,
-                slots,
-                nexts,
-                lengths,
-                first,
-                block as u32,
-                text,
-                end,
-            );
+            end = chain_lines(image, geometry, tables, first, block as u32, text, end);
         }
-        block += 1;
     }
     end
 }

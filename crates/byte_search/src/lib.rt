@@ -11,12 +11,10 @@ pub fn find(bytes: &[u8], start: usize, end: usize, byte: u8) -> usize
     ensures value { result ≡ start + index_of byte (slice start end bytes.now) }
     ensures within { result ≤ end }
 {
-    let mut i = start;
-    while i < end {
+    for i in start..end {
         if bytes[i] == byte {
             return i;
         }
-        i += 1;
     }
-    i
+    end
 }

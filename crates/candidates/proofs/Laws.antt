@@ -21,7 +21,8 @@ use Rattle.index.specs.Tables.{most_pages, page_of, of_block}
 use Rattle.descent.specs.Descent.{largest, Descent}
 use Rattle.descent.specs.Turns.{descent_start, turn_live, turn, end_live}
 use Rattle.salvage.specs.Salvage.{regarded, candidates, given}
-use Rattle.meeting.specs.Sheet.{Sheet, met, met_row, met_kind, Within, row_within}
+use Rattle.meeting.specs.declared.Sheet.{Sheet}
+use Rattle.meeting.specs.Sheet.{met, met_row, met_kind, Within, row_within}
 use Rattle.candidates.specs.Gathered.{met_all, Tells, Gathered}
 use Rattle.candidates.specs.Told.{AllLie, all_whole, all_tell}
 use Rattle.candidates.specs.Lie.{held_regarded, candidates_lie}

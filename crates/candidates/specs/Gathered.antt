@@ -6,7 +6,8 @@ use Rattle.model.specs.State.{segments_of}
 use Rattle.account_text.specs.Account.{LiveSlot}
 use Rattle.index.specs.Tables.{most_pages, page_of, of_block, Stands}
 use Rattle.salvage.specs.Salvage.{candidates, given, agreed}
-use Rattle.meeting.specs.Sheet.{Sheet, page_at, met}
+use Rattle.meeting.specs.declared.Sheet.{Sheet}
+use Rattle.meeting.specs.Sheet.{page_at, met}
 
 -- candidates met, the last one first
 unfoldable pub met_all : Image → ℕ → List LiveSlot → Sheet → Sheet

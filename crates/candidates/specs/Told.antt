@@ -19,7 +19,8 @@ use Rattle.model.proofs.Laws.SlotPage.{live_facts}
 use Rattle.account_text.specs.Account.{LiveSlot}
 use Rattle.index.specs.Tables.{most_pages, page_of, of_block}
 use Rattle.salvage.specs.Salvage.{held_in, given, agreed}
-use Rattle.meeting.specs.Sheet.{Sheet, sheet, page_at, met}
+use Rattle.meeting.specs.declared.Sheet.{Sheet}
+use Rattle.meeting.specs.Sheet.{sheet, page_at, met}
 use Rattle.candidates.specs.Gathered.{met_all, Lies, NoneOf, OneOf, Tells}
 
 -- ---- pages of one block

@@ -7,43 +7,32 @@ ghost use Rattle.model.specs.Chip.{right_size};
 ghost use Rattle.model.specs.State.{segments_of};
 ghost use Rattle.flash.specs.Pages.{Sized};
 ghost use Rattle.salvage.specs.Salvage.{candidates};
-ghost use Rattle.meeting.specs.Sheet.{sheet, Within};
+ghost use Rattle.meeting.specs.Sheet.{Within};
 ghost use Rattle.candidates.specs.Gathered.{met_all, Gathered};
 
+use meeting::Sheet;
+use model::Geometry;
+
 // The candidates met, from the last one on.
-fn walk(
-    image: &[u8],
-    segments: usize,
-    slots: usize,
-    places: &mut [u32; 65536],
-    lengths: &mut [u8; 65536],
-    differs: &mut [bool; 65536],
-)
-    requires { Sized segments slots (length image.now) × Within places.old (length image.now) }
-    ensures { sheet places.new lengths.new differs.new ≡ met_all image.now slots (candidates segments (segments_of segments slots image.now)) (sheet places.old lengths.old differs.old) }
+// Kept: the next is the largest number that is left, which no range tells.
+fn walk(image: &[u8], geometry: Geometry, sheet: &mut Sheet)
+    requires { Sized geometry.segments geometry.slots (length image.now) × Within sheet.old.places (length image.now) }
+    ensures { sheet.new ≡ met_all image.now geometry.slots (candidates geometry.segments (segments_of geometry.segments geometry.slots image.now)) sheet.old }
 {
-    let mut left = regard::regarded(image, segments, slots);
-    let mut top = descent::largest(&left, segments);
+    let mut left = regard::regarded(image, geometry);
+    let mut top = descent::largest(&left, geometry.segments);
     while top > 0 {
-        let index = (top - 1) % segments;
-        meeting::meet_row(image, index * (slots + 1), slots, places, lengths, differs);
+        let index = (top - 1) % geometry.segments;
+        meeting::meet_row(image, index * (geometry.slots + 1), geometry.slots, sheet);
         left[index] = 0;
-        top = descent::largest(&left, segments);
+        top = descent::largest(&left, geometry.segments);
     }
 }
 
-// The candidates of an image, whatever its damage, in tables that hold none yet: of each block number where the one given is,
-// the length of its contents, and whether another disagrees.
-pub fn gather(
-    image: &[u8],
-    segments: usize,
-    slots: usize,
-    places: &mut [u32; 65536],
-    lengths: &mut [u8; 65536],
-    differs: &mut [bool; 65536],
-)
-    requires { (right_size segments slots image.now ≡ true) × (places.old ≡ replicate 65536 0) × (lengths.old ≡ replicate 65536 0) × (differs.old ≡ replicate 65536 false) }
-    ensures { Gathered segments slots image.now (sheet places.new lengths.new differs.new) }
+// The candidates of an image, whatever its damage, in tables that hold none yet.
+pub fn gather(image: &[u8], geometry: Geometry, sheet: &mut Sheet)
+    requires { (right_size geometry.segments geometry.slots image.now ≡ true) × (sheet.old.places ≡ replicate 65536 0) × (sheet.old.lengths ≡ replicate 65536 0) × (sheet.old.differs ≡ replicate 65536 false) }
+    ensures { Gathered geometry.segments geometry.slots image.now sheet.new }
 {
-    walk(image, segments, slots, places, lengths, differs);
+    walk(image, geometry, sheet);
 }

@@ -9,11 +9,10 @@ ghost use Rattle.model.specs.Table.{live_between, table_of};
 ghost use Rattle.places.specs.Places.{Fillable};
 ghost use Rattle.counting.specs.Count.{most_met, numbers_in, in_range, meet, meet_all};
 
-use model::{BlockNumber, SegmentNumber, SlotPlace};
+use model::{BlockNumber, Geometry, SegmentNumber, SlotPlace};
+use slot::WRITTEN;
 
-// The status of a live slot, and of one that nothing was written to.
-const WRITTEN: u8 = 0x3F;
-
+// The status of a slot that nothing was written to.
 const UNWRITTEN: u8 = 255;
 
 // What is looked for: the blocks of a range of numbers, its first and its last among them, and one block. Any numbers will do: a
@@ -30,13 +29,6 @@ pub struct Sought {
 pub struct Met {
     pub blocks: usize,
     pub stored: bool,
-}
-
-// Two bytes as a number, low byte first.
-fn word(low: u8, high: u8) -> u16
-    ensures { result ≡ low + 256 * high }
-{
-    low as u16 + 256 * (high as u16)
 }
 
 // Whether a slot counts: it is live, and its block number is in the range. Live and dead slots come in no order, nor do block numbers,
@@ -70,16 +62,14 @@ fn meet_slots(image: &[u8], slots: usize, from: SlotPlace, sought: Sought, befor
 {
     let start = from.0;
     let mut met = before;
-    let mut slot = 0;
-    while slot < slots {
+    for slot in 0..slots {
         let at = start + slot * 256;
         let status = image[at];
         if status == UNWRITTEN {
             return met;
         }
-        let block = word(image[at + 2], image[at + 3]);
+        let block = u16::from_le_bytes([image[at + 2], image[at + 3]]);
         met = meet(sought, met, status == WRITTEN, block);
-        slot += 1;
     }
     met
 }
@@ -87,25 +77,22 @@ fn meet_slots(image: &[u8], slots: usize, from: SlotPlace, sought: Sought, befor
 // The blocks that a clean image stores, of the segments in use with their numbers.
 pub fn count_live(
     image: &[u8],
-    segments: usize,
-    slots: usize,
+    geometry: Geometry,
     first: SegmentNumber,
     used: usize,
     sought: Sought,
 ) -> Met
-    requires { Fillable segments slots image.now first.0 used }
-    ensures { (result.blocks ≡ live_between sought.first.0 sought.last.0 (table_of segments slots image.now)) × (result.stored ≡ holds sought.block.0 (table_of segments slots image.now)) }
+    requires { Fillable geometry.segments geometry.slots image.now first.0 used }
+    ensures { (result.blocks ≡ live_between sought.first.0 sought.last.0 (table_of geometry.segments geometry.slots image.now)) × (result.stored ≡ holds sought.block.0 (table_of geometry.segments geometry.slots image.now)) }
 {
     let mut met = Met {
         blocks: 0,
         stored: false,
     };
-    let mut turn = 0;
-    while turn < used {
+    for turn in 0..used {
         let number = first.0 + turn as u32;
-        let from = find::first_slot(segments, slots, SegmentNumber(number));
-        met = meet_slots(image, slots, from, sought, met);
-        turn += 1;
+        let from = find::first_slot(geometry, SegmentNumber(number));
+        met = meet_slots(image, geometry.slots, from, sought, met);
     }
     met
 }

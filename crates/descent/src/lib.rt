@@ -13,10 +13,8 @@ pub fn largest(left: &[usize; MOST_SEGMENTS], segments: usize) -> usize
     ensures { result ≡ largest (take segments left.now) }
 {
     let mut most: usize = 0;
-    let mut i: usize = 0;
-    while i < segments {
-        most = summary::larger(most, left[i]);
-        i += 1;
+    for i in 0..segments {
+        most = most.max(left[i]);
     }
     most
 }

@@ -23,26 +23,17 @@ fn number(n: u64) {
 
 // Bytes in hexadecimal, a space before each.
 fn bytes(s: &[u8]) {
-    let mut i = 0;
-    while i < s.len() {
+    for &b in s {
         text(b" ");
-        io::print_hex(STDOUT_FILENO, wide(s[i]), 2);
-        i += 1;
+        io::print_hex(STDOUT_FILENO, u64::from(b), 2);
     }
-}
-
-fn wide(x: u8) -> u64
-    ensures { result ≡ x }
-{
-    x as u64
 }
 
 // A writing request's answer and steps.
 fn told(what: &[u8], p: Performed) {
-    let answer = p.answer;
     text(what);
     text(b": answer ");
-    number(request::number_of(answer));
+    number(request::number_of(p.answer));
     text(b", steps ");
     number(p.steps);
     text(b"\n");
@@ -51,11 +42,10 @@ fn told(what: &[u8], p: Performed) {
 // A read's answer and contents.
 fn read(image: &[u8], segments: usize, slots: usize, block: u16) {
     let r = store::read(image, segments, slots, BlockNumber(block));
-    let answer = r.answer;
     text(b"read ");
-    number(block as u64);
+    number(u64::from(block));
     text(b": answer ");
-    number(request::number_of(answer));
+    number(request::number_of(r.answer));
     contents(image, r);
     text(b"\n");
 }
@@ -66,39 +56,30 @@ fn contents(image: &[u8], r: Located) {
     text(b", offset ");
     number(offset as u64);
     text(b", contents");
-    if offset <= image.len() {
-        if length <= image.len() - offset {
-            let end = offset + length;
-            bytes(&image[offset..end]);
-        }
+    if offset <= image.len() && length <= image.len() - offset {
+        bytes(&image[offset..offset + length]);
     }
 }
 
 // Block 7 put with one byte of contents.
 fn seven(image: &mut [u8], value: u8, budget: u64) {
-    let one = [value; 1];
     told(
         b"put 7",
-        store::put(image, 2, 2, BlockNumber(7), &one, budget),
+        store::put(image, 2, 2, BlockNumber(7), &[value], budget),
     );
 }
 
 // A small store, formatted, with block 7 put some times.
 fn small(image: &mut [u8], puts: u8) {
     store::format(image, 2, 2, ENOUGH);
-    let mut i: u8 = 0;
-    while i < puts {
-        i += 1;
-        let one = [i; 1];
-        store::put(image, 2, 2, BlockNumber(7), &one, ENOUGH);
+    for value in 1..=puts {
+        store::put(image, 2, 2, BlockNumber(7), &[value], ENOUGH);
     }
 }
 
 // Blocks 1 to last put with these contents.
 fn fill(image: &mut [u8], segments: usize, slots: usize, last: u16, contents: &[u8]) {
-    let mut block: u16 = 0;
-    while block < last {
-        block += 1;
+    for block in 1..=last {
         store::put(image, segments, slots, BlockNumber(block), contents, ENOUGH);
     }
 }
@@ -222,9 +203,7 @@ fn example_10() {
 
 // Recoveries that are cut before they erase, and so leave it to the next.
 fn counted(image: &mut [u8], times: u64) {
-    let mut i: u64 = 0;
-    while i < times {
-        i += 1;
+    for _ in 0..times {
         store::recover(image, 2, 2, 1);
     }
 }

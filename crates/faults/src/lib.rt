@@ -2,7 +2,7 @@
 // be in the image. Headers first; slots only where conditions 1 to 4 hold, since they say which segments are looked at.
 #![tactic(auto)]
 
-ghost use Rattle.std.specs.Prelude.{◌≡◌, true, not, ◌&&◌, ◌||◌, ◌+◌, ◌*◌, ◌<◌, ◌≤◌, length};
+ghost use Rattle.std.specs.Prelude.{◌≡◌, true, false, not, ◌&&◌, ◌||◌, ◌+◌, ◌*◌, ◌<◌, ◌≤◌, length};
 ghost use Rattle.model.specs.Chip.{most_segments, most_slots, right_size};
 ghost use Rattle.model.specs.State.{conditions, numbers_from, segments_of};
 ghost use Rattle.flash.specs.Pages.{Sized};
@@ -13,7 +13,7 @@ ghost use Rattle.account_text.specs.Account.{first_failing};
 ghost use Rattle.faults.specs.Tests.{test_head, head_tests, head_place, heads_told, wrote, next_row, look, test_slot, test_slots, rows_tested, slot_place};
 
 use judge::{HeaderCounts, Summary};
-use model::SlotKind;
+use model::{Geometry, SlotKind};
 
 // The segments by their headers: counted, whether none is owing, and whether all that are not in use are blank.
 #[derive(Clone, Copy)]
@@ -42,16 +42,6 @@ struct SlotTests {
     live: usize,
 }
 
-// Whether what held so far still holds.
-fn still(held: bool, broken: bool) -> bool
-    ensures { result ≡ (held && not broken) }
-{
-    if broken {
-        return false;
-    }
-    held
-}
-
 // ---- headers
 
 // One segment more.
@@ -59,13 +49,10 @@ fn test_head(tests: HeadTests, s: Summary) -> HeadTests
     requires { (tests.counts.used < most_segments) × (tests.counts.next ≤ 4294967296) }
     ensures { (result ≡ test_head tests (bare s)) × (result.counts.used ≤ tests.counts.used + 1) × (result.counts.next ≤ 4294967296) }
 {
-    let counts = segments::count_one(tests.counts, s);
-    let none_owing = still(tests.none_owing, summary::is_owing(s));
-    let others_blank = still(tests.others_blank, summary::is_invalid(s));
     HeadTests {
-        counts,
-        none_owing,
-        others_blank,
+        counts: segments::count_one(tests.counts, s),
+        none_owing: tests.none_owing && !summary::is_owing(s),
+        others_blank: tests.others_blank && !summary::is_invalid(s),
     }
 }
 
@@ -74,16 +61,14 @@ fn test_heads(image: &[u8], segments: usize, slots: usize) -> HeadTests
     requires { Sized segments slots (length image.now) }
     ensures { (result ≡ head_tests (segments_of segments slots image.now)) × (result.counts.used ≤ most_segments) × (result.counts.next ≤ 4294967296) }
 {
+    let geometry = Geometry { segments, slots };
     let mut tests = HeadTests {
         counts: segments::none_counted(),
         none_owing: true,
         others_blank: true,
     };
-    let mut i: usize = 0;
-    while i < segments {
-        let s = summary::see_segment(image, segments, slots, i);
-        tests = test_head(tests, s);
-        i += 1;
+    for i in 0..segments {
+        tests = test_head(tests, summary::see_segment(image, geometry, i));
     }
     tests
 }
@@ -94,14 +79,13 @@ fn numbers_follow(image: &[u8], segments: usize, slots: usize, first: usize, use
     requires { Sized segments slots (length image.now) × (first ≤ 4294967296) × (used ≤ most_segments) }
     ensures { result ≡ numbers_from segments (segments_of segments slots image.now) used first }
 {
-    let mut k: usize = 0;
-    while k < used {
+    let geometry = Geometry { segments, slots };
+    for k in 0..used {
         let number = first + k;
-        let s = summary::see_segment(image, segments, slots, number % segments);
+        let s = summary::see_segment(image, geometry, number % segments);
         if summary::number_after(s) != number + 1 {
             return false;
         }
-        k += 1;
     }
     true
 }
@@ -109,10 +93,7 @@ fn numbers_follow(image: &[u8], segments: usize, slots: usize, first: usize, use
 fn one_version(counts: HeaderCounts) -> bool
     ensures { result ≡ (counts.all_version_1 || counts.all_version_2) }
 {
-    if counts.all_version_1 {
-        return true;
-    }
-    counts.all_version_2
+    counts.all_version_1 || counts.all_version_2
 }
 
 // The first of conditions 1 to 4 that fails, or 0.
@@ -151,7 +132,7 @@ fn see_heads(image: &[u8], segments: usize, slots: usize) -> HeadsTold
     let tests = test_heads(image, segments, slots);
     let counts = tests.counts;
     let used = counts.used;
-    let first = summary::less(counts.next, used);
+    let first = counts.next.saturating_sub(used);
     let follow = numbers_follow(image, segments, slots, first, used);
     let place = head_place(tests, follow, segments);
     HeadsTold { first, used, place }
@@ -159,17 +140,23 @@ fn see_heads(image: &[u8], segments: usize, slots: usize) -> HeadsTold
 
 // ---- slots
 
-// A slot that is not empty follows, with what is true of the slots so far and how many are live.
-fn written(tests: SlotTests, sound: bool, distinct: bool, live: usize) -> SlotTests
-    ensures { result ≡ wrote tests sound distinct live }
+// A slot that is not empty follows.
+fn written(tests: SlotTests) -> SlotTests
+    ensures { result ≡ wrote tests tests.sound tests.distinct tests.live }
 {
-    let in_order = still(tests.in_order, tests.room);
     SlotTests {
-        sound,
-        distinct,
-        in_order,
-        room: tests.room,
-        live,
+        in_order: tests.in_order && !tests.room,
+        ..tests
+    }
+}
+
+// One follows that is wrong or torn.
+fn unsound(tests: SlotTests) -> SlotTests
+    ensures { result ≡ wrote tests false tests.distinct tests.live }
+{
+    SlotTests {
+        sound: false,
+        ..written(tests)
     }
 }
 
@@ -178,25 +165,23 @@ fn test_slot(tests: SlotTests, kind: SlotKind, seen: &mut [u64; 1024]) -> SlotTe
     requires { tests.live ≤ 1000000 }
     ensures { look result seen.new ≡ test_slot kind (look tests seen.old) }
 {
-    let sound = tests.sound;
-    let distinct = tests.distinct;
-    let live = tests.live;
     match kind {
         SlotKind::Empty => SlotTests {
-            sound,
-            distinct,
-            in_order: tests.in_order,
             room: true,
-            live,
+            ..tests
         },
-        SlotKind::Torn => written(tests, false, distinct, live),
-        SlotKind::Live { length: _, block } => {
-            let once = still(distinct, rows::meet(seen, block));
-            written(tests, sound, once, live + 1)
+        SlotKind::Torn => unsound(tests),
+        SlotKind::Live { block, .. } => {
+            let met = rows::meet(seen, block);
+            SlotTests {
+                distinct: tests.distinct && !met,
+                live: tests.live + 1,
+                ..written(tests)
+            }
         }
-        SlotKind::Dead => written(tests, sound, distinct, live),
-        SlotKind::Cut => written(tests, sound, distinct, live),
-        SlotKind::Wrong => written(tests, false, distinct, live),
+        SlotKind::Dead => written(tests),
+        SlotKind::Cut => written(tests),
+        SlotKind::Wrong => unsound(tests),
     }
 }
 
@@ -212,12 +197,10 @@ fn test_row(
     ensures { (look result seen.new ≡ test_slots (kinds_at image.now at slots) (look before seen.old)) × (result.live ≤ before.live + slots) }
 {
     let mut tests = before;
-    let mut i: usize = 0;
-    while i < slots {
+    for i in 0..slots {
         let a = at + i * 256;
         let e = a + 256;
         tests = test_slot(tests, slot::slot_kind(&image[a..e]), seen);
-        i += 1;
     }
     tests
 }
@@ -226,13 +209,10 @@ fn test_row(
 fn next_row(tests: SlotTests) -> SlotTests
     ensures { result ≡ next_row tests }
 {
-    let full = still(tests.in_order, tests.room);
+    let full = written(tests);
     SlotTests {
-        sound: tests.sound,
-        distinct: tests.distinct,
-        in_order: full,
         room: false,
-        live: tests.live,
+        ..full
     }
 }
 
@@ -249,11 +229,9 @@ fn test_rows(image: &[u8], segments: usize, slots: usize, first: usize, used: us
         room: false,
         live: 0,
     };
-    let mut k: usize = 0;
-    while k < used {
+    for k in 0..used {
         let at = ((first + k) % segments * (slots + 1) + 1) * 256;
         tests = test_row(image, at, slots, next_row(tests), &mut seen);
-        k += 1;
     }
     tests
 }
@@ -278,6 +256,7 @@ fn slot_place(tests: SlotTests, most: usize) -> usize
 }
 
 // The first condition of Clean that fails, or 0 if the image is clean.
+// Kept: 0 for none is that of the definition `Account.first_failing`, which this equals.
 pub fn first_failing(image: &[u8], segments: usize, slots: usize) -> usize
     requires { right_size segments slots image.now ≡ true }
     ensures { (result ≡ first_failing 1 (conditions segments slots (segments_of segments slots image.now))) × (result ≤ 8) }

@@ -15,17 +15,18 @@ use Rattle.model.specs.Steps.{slot_at}
 use Rattle.model.specs.Table.{absent, present, lookup, contents_found}
 use Rattle.model.proofs.Laws.SlotPage.{live_facts}
 use Rattle.bridge.specs.Held.{Held}
-use Rattle.find.specs.declared.Found.{Found}
-use Rattle.find.specs.declared.Found.TheVariants.{At, Nothing}
-use Rattle.find.specs.Search.{rows_at, found_in, held_found}
+use Rattle.std.specs.Prelude.{Option, None, Some}
+use Rattle.std.specs.declared.option.Option.{Option}
+use Rattle.find.specs.declared.FoundSlot.{FoundSlot}
+use Rattle.find.specs.Search.{rows_at, slot_found, found_in, held_found}
 use Rattle.find.proofs.Laws.{found_from, row_enter, row_end, slot_next, slot_stop, slots_left, page_read, left_next, left_end}
 
 -- ---- inside the image, whatever the image
 
 -- the slot's page is inside, and so are its contents
-abbrev pub Inside : ℕ → ℕ → Found → Type 0
-Inside N B (At p l) = (p.0 + 256 ≤ N * (B + 1) * 256) × (l ≤ 248)
-Inside N B Nothing = Unit {0}
+abbrev pub Inside : ℕ → ℕ → Option FoundSlot → Type 0
+Inside N B (Some x) = (x.place.0 + 256 ≤ N * (B + 1) * 256) × (x.length ≤ 248)
+Inside N B None = Unit {0}
 
 short : (b : ℕ) (p : Page) (k : Slot) → slot_of p ≡ k → length (contents_found (lookup b (entry_of k))) ≤ 248
 unfolding entry_of lookup contents_found
@@ -74,7 +75,7 @@ module _ (N B b : ℕ) (s : Image) (some : 0 < N) where
       let rows = rows_at N B s u (suc n) in
       subst (Inside N B) (sym (row_enter N B b n (slots_left N B s n 0) rows)) (row_inside n rows (rows_inside u (suc n)) B 0 (omega arith))
 
-  pub found_inside : {r : Found} (u n : ℕ) → r ≡ found_in N B n (rows_at N B s u n) b → Inside N B r
+  pub found_inside : {r : Option FoundSlot} (u n : ℕ) → r ≡ found_in N B n (rows_at N B s u n) b → Inside N B r
   found_inside u n e = subst (Inside N B) (sym e) (rows_inside u n)
 
 -- ---- an image with a view
@@ -84,26 +85,26 @@ pub record FoundAt (N B b : ℕ) (v : View) (p : SlotPlace) (l : ℕ) : Type 0 w
   pub place : p.0 ≡ slot_at N B (place_of b v).number (place_of b v).slot * 256
   pub long : l ≡ length (contents_found (lookup b (entries_in v)))
 
-module _ (N B b : ℕ) (s : Image) (v : View) (h : Held N B s v) {r : Found} {n u : ℕ} (f : n ≡ v.first) (g : u ≡ length v.slots)
+module _ (N B b : ℕ) (s : Image) (v : View) (h : Held N B s v) {r : Option FoundSlot} {n u : ℕ} (f : n ≡ v.first) (g : u ≡ length v.slots)
     (e : r ≡ found_in N B n (rows_at N B s u n) b) where
-  abbrev answer : Bool → Found
-  answer t = cond t (At (record { 0 = slot_at N B (place_of b v).number (place_of b v).slot * 256 }) (length (contents_found (lookup b (entries_in v))))) Nothing
+  abbrev answer : Bool → Option FoundSlot
+  answer t = cond t (slot_found (slot_at N B (place_of b v).number (place_of b v).slot * 256) (length (contents_found (lookup b (entries_in v))))) None
 
   outcome : r ≡ answer (holds b (entries_in v))
   outcome = (rw (f, g) at e) ∙ held_found N B s v b h
 
-  pub found_at : (p : SlotPlace) (l : ℕ) → r ≡ At p l → FoundAt N B b v p l
-  found_at p l a = go (holds b (entries_in v)) refl (sym a ∙ outcome)
+  pub found_at : (x : FoundSlot) → r ≡ Some x → FoundAt N B b v x.place x.length
+  found_at x a = go (holds b (entries_in v)) refl (sym a ∙ outcome)
     where
-      go : (t : Bool) → holds b (entries_in v) ≡ t → At p l ≡ answer t → FoundAt N B b v p l
+      go : (t : Bool) → holds b (entries_in v) ≡ t → Some x ≡ answer t → FoundAt N B b v x.place x.length
       go true t q =
-          let a : ◌≡◌ {A = SlotPlace} p (record { 0 = slot_at N B (place_of b v).number (place_of b v).slot * 256 }) = cc in
-          record { held = t; place = ap (λ (x : SlotPlace). x.0) a; long = cc }
+          let e : x ≡ record { place = record { 0 = slot_at N B (place_of b v).number (place_of b v).slot * 256 }; length = length (contents_found (lookup b (entries_in v))) } = cc in
+          record { held = t; place = ap (λ (y : FoundSlot). y.place.0) e; long = ap (λ (y : FoundSlot). y.length) e }
       go false t q = absurd (let z : ◌≡◌ {A = ℕ} 0 1 = cc in omega arith)
 
-  pub found_nothing : r ≡ Nothing → holds b (entries_in v) ≡ false
+  pub found_nothing : r ≡ None → holds b (entries_in v) ≡ false
   found_nothing a = go (holds b (entries_in v)) refl (sym a ∙ outcome)
     where
-      go : (t : Bool) → holds b (entries_in v) ≡ t → Nothing ≡ answer t → holds b (entries_in v) ≡ false
+      go : (t : Bool) → holds b (entries_in v) ≡ t → None ≡ answer t → holds b (entries_in v) ≡ false
       go true t q = absurd (let z : ◌≡◌ {A = ℕ} 0 1 = cc in omega arith)
       go false t q = t

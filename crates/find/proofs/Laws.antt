@@ -24,9 +24,10 @@ use Rattle.model.proofs.Laws.SlotPage.{live_facts}
 use Rattle.bridge.specs.Views.Slots.{entries_append, entries_cons}
 use Rattle.flash.specs.Pages.{Sized}
 use Rattle.slot.proofs.Laws.Kinds.{Other, other_holds}
-use Rattle.find.specs.declared.Found.{Found}
-use Rattle.find.specs.declared.Found.TheVariants.{At, Nothing}
-use Rattle.find.specs.Search.{may_hold, rows_at, found_in}
+use Rattle.std.specs.Prelude.{Option, None}
+use Rattle.std.specs.declared.option.Option.{Option}
+use Rattle.find.specs.declared.FoundSlot.{FoundSlot}
+use Rattle.find.specs.Search.{may_hold, rows_at, slot_found, found_in}
 use Rattle.model.proofs.Laws.Tables.{holds_append, lookup_append}
 
 -- ---- what a slot's kind says of the block
@@ -78,9 +79,9 @@ passed_over p b d f = go (slot_of p) refl
 
 module _ (N B b n : ℕ) where
   -- what is found among the slots from slot j of the segment with number n on, and in the rows after them
-  unfoldable pub found_from : ℕ → List Slot → List (List Slot) → Found
+  unfoldable pub found_from : ℕ → List Slot → List (List Slot) → Option FoundSlot
   found_from j ks rows =
-      cond (holds b (entries ks)) (At (record { 0 = slot_at N B n (slot_from b j ks) * 256 }) (length (contents_found (lookup b (entries ks))))) (found_in N B (suc n) rows b)
+      cond (holds b (entries ks)) (slot_found (slot_at N B n (slot_from b j ks) * 256) (length (contents_found (lookup b (entries ks))))) (found_in N B (suc n) rows b)
 
   pub row_enter : (ks : List Slot) (rows : List (List Slot)) → found_in N B n (ks ∷ rows) b ≡ found_from 0 ks rows
   unfolding found_from found_in flatten place_from
@@ -95,7 +96,7 @@ module _ (N B b n : ℕ) where
   slot_next j k ks rows e = rw (add-one j, entries_cons k ks, holds_append b (entry_of k) (entries ks), lookup_append b (entry_of k) (entries ks), e)
 
   pub slot_stop : (j : ℕ) (k : Slot) (ks : List Slot) (rows : List (List Slot)) → holds b (entry_of k) ≡ true
-      → found_from j (k ∷ ks) rows ≡ At (record { 0 = slot_at N B n j * 256 }) (length (contents_found (lookup b (entry_of k))))
+      → found_from j (k ∷ ks) rows ≡ slot_found (slot_at N B n j * 256) (length (contents_found (lookup b (entry_of k))))
   unfolding found_from slot_from
   slot_stop j k ks rows e = rw (entries_cons k ks, holds_append b (entry_of k) (entries ks), lookup_append b (entry_of k) (entries ks), e)
 
@@ -142,7 +143,7 @@ searching_start N B b s first used =
     record { within = omega arith; rest = rw (e, f) }
 
 pub searching_end : (N B b : ℕ) (s : Image) (first used turn : ℕ) → Searching N B b s first used turn → used ≤ turn
-    → Nothing ≡ found_in N B first (rows_at N B s used first) b
+    → None ≡ found_in N B first (rows_at N B s used first) b
 unfolding found_in rows_at flatten entries flat_map holds
 searching_end N B b s first used turn w h = let e : used - turn ≡ 0 = omega arith in rw e at w.rest
 
@@ -219,7 +220,7 @@ module _ (N B b : ℕ) (s : Image) (first used turn from slot : ℕ) (w : Walkin
         pub walking_next : (n.0 ≡ b → ⊥) → Walking N B b s first used turn from (slot + 1)
         walking_next o = passed ((live_holds b kind l n (sym d ∙ e)).0 ∙ ne_eqb b n.0 (λ q. o (sym q)))
 
-        pub walking_stop : n.0 ≡ b → At (record { 0 = from + slot * 256 }) l ≡ found_in N B first (rows_at N B s used first) b
+        pub walking_stop : n.0 ≡ b → slot_found (from + slot * 256) l ≡ found_in N B first (rows_at N B s used first) b
         unfolding slot_at
         walking_stop q =
             let r = live_holds b kind l n (sym d ∙ e) in

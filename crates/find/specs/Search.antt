@@ -1,6 +1,6 @@
 -- What a search for a block finds: in rows of slots, and in the segments of an image with given numbers, whatever their headers say. For an image with a view
 -- the rows are the view's.
-use Rattle.std.specs.Prelude.{ℕ, zero, suc, ◌+◌, ◌*◌, ◌/◌, ◌%◌, ◌<◌, ◌≡◌, refl, Bool, cond, ◌&&◌, length, get_or, drop, eqb}
+use Rattle.std.specs.Prelude.{ℕ, zero, suc, ◌+◌, ◌*◌, ◌/◌, ◌%◌, ◌<◌, ◌≡◌, refl, Bool, cond, ◌&&◌, length, get_or, drop, eqb, Option, None, Some}
 use Rattle.std.proofs.Common.{sym, ap₂, ◌∙◌, mod-lt, arith}
 use mathlib.Core.List.{List, [], ◌∷◌, map, flatten}
 use Rattle.model.specs.Chip.{Image, Page}
@@ -12,8 +12,7 @@ use Rattle.model.proofs.Laws.Segments.{part_of, segment_at}
 use Rattle.model.proofs.Laws.Effects.{in_use_parts}
 use Rattle.bridge.specs.Held.{Held, held_row}
 use Rattle.model.proofs.Laws.Chip.{size_facts}
-use Rattle.find.specs.declared.Found.{Found}
-use Rattle.find.specs.declared.Found.TheVariants.{At, Nothing}
+use Rattle.find.specs.declared.FoundSlot.{FoundSlot}
 
 -- the status and the number in a slot are those of a live slot of block b
 unfoldable pub may_hold : Page → ℕ → Bool
@@ -24,12 +23,16 @@ unfoldable pub rows_at : ℕ → ℕ → Image → ℕ → ℕ → List (List Sl
 rows_at N B s zero n = []
 rows_at N B s (suc u) n = map slot_of (drop 1 (part_of N B (n % N) s)) ∷ rows_at N B s u (suc n)
 
+-- a live slot at an offset of the image, with so many bytes of contents
+abbrev pub slot_found : ℕ → ℕ → Option FoundSlot
+slot_found at l = Some (record { place = record { 0 = at }; length = l })
+
 -- the first live slot of block b in rows whose numbers start at n: its offset in the image, and the length of its contents
-unfoldable pub found_in : ℕ → ℕ → ℕ → List (List Slot) → ℕ → Found
+unfoldable pub found_in : ℕ → ℕ → ℕ → List (List Slot) → ℕ → Option FoundSlot
 found_in N B n rows b = let place = place_from b n rows in
     cond (holds b (entries (flatten rows)))
-    (At (record { 0 = slot_at N B place.number place.slot * 256 }) (length (contents_found (lookup b (entries (flatten rows))))))
-    Nothing
+    (slot_found (slot_at N B place.number place.slot * 256) (length (contents_found (lookup b (entries (flatten rows))))))
+    None
 
 -- ---- an image with a view
 
@@ -55,6 +58,6 @@ held_rows_at N B s v h = rows_same N B s v.slots v.first row
 -- what the search finds is by the view's entries and places
 pub held_found : (N B : ℕ) (s : Image) (v : View) (b : ℕ) → Held N B s v
     → found_in N B v.first (rows_at N B s (length v.slots) v.first) b
-    ≡ cond (holds b (entries_in v)) (At (record { 0 = slot_at N B (place_of b v).number (place_of b v).slot * 256 }) (length (contents_found (lookup b (entries_in v))))) Nothing
+    ≡ cond (holds b (entries_in v)) (slot_found (slot_at N B (place_of b v).number (place_of b v).slot * 256) (length (contents_found (lookup b (entries_in v))))) None
 unfolding entries_in place_of found_in
 held_found N B s v b h = rw (held_rows_at N B s v h)

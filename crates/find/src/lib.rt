@@ -6,25 +6,23 @@ ghost use Rattle.model.specs.Steps.{slot_at};
 ghost use Rattle.flash.specs.Pages.{Sized};
 ghost use Rattle.find.specs.Search.{may_hold, rows_at, found_in};
 
-use model::{BlockNumber, SegmentNumber, SlotKind, SlotPlace};
+use model::{BlockNumber, Geometry, SegmentNumber, SlotKind, SlotPlace};
+use slot::WRITTEN;
 
-// The status of a live slot.
-const WRITTEN: u8 = 0x3F;
-
-// Where a block's slot is, and the length of its contents.
+// A live slot: where it is, and the length of its contents.
 #[derive(Clone, Copy)]
-pub enum Found {
-    At(SlotPlace, usize),
-    Nothing,
+pub struct FoundSlot {
+    pub place: SlotPlace,
+    pub length: usize,
 }
 
 // The place of the first slot of the segment with a number.
-pub fn first_slot(segments: usize, slots: usize, number: SegmentNumber) -> SlotPlace
-    requires { (0 < segments) × (segments ≤ 255) × (slots ≤ 255) }
-    ensures { result.0 ≡ slot_at segments slots number.0 0 * 256 }
+pub fn first_slot(geometry: Geometry, number: SegmentNumber) -> SlotPlace
+    requires { (0 < geometry.segments) × (geometry.segments ≤ 255) × (geometry.slots ≤ 255) }
+    ensures { result.0 ≡ slot_at geometry.segments geometry.slots number.0 0 * 256 }
 {
-    let index = number.0 as usize % segments;
-    let at = (index * (slots + 1) + 1) * 256;
+    let index = number.0 as usize % geometry.segments;
+    let at = (index * (geometry.slots + 1) + 1) * 256;
     SlotPlace(at)
 }
 
@@ -47,26 +45,22 @@ fn may_hold(page: &[u8], block: BlockNumber) -> bool
 // they stand, whatever the headers say.
 pub fn find(
     image: &[u8],
-    segments: usize,
-    slots: usize,
+    geometry: Geometry,
     first: SegmentNumber,
     used: usize,
     block: BlockNumber,
-) -> Found
-    requires { Sized segments slots (length image.now) × (first.0 + used ≤ 4294967296) }
-    ensures { result ≡ found_in segments slots first.0 (rows_at segments slots image.now used first.0) block.0 }
+) -> Option<FoundSlot>
+    requires { Sized geometry.segments geometry.slots (length image.now) × (first.0 + used ≤ 4294967296) }
+    ensures { result ≡ found_in geometry.segments geometry.slots first.0 (rows_at geometry.segments geometry.slots image.now used first.0) block.0 }
 {
-    let mut found = Found::Nothing;
-    let mut turn = 0;
-    'segments: while turn < used {
+    let mut found = None;
+    'segments: for turn in 0..used {
         let number = first.0 + turn as u32;
-        let from = first_slot(segments, slots, SegmentNumber(number));
-        let mut slot = 0;
-        while slot < slots {
+        let from = first_slot(geometry, SegmentNumber(number));
+        for slot in 0..geometry.slots {
             let at = from.0 + slot * 256;
             let next = at + 256;
             let page = &image[at..next];
-            slot += 1;
             if !may_hold(page, block) {
                 continue;
             }
@@ -79,11 +73,13 @@ pub fn find(
                 continue;
             };
             if held.0 == block.0 {
-                found = Found::At(SlotPlace(at), length);
+                found = Some(FoundSlot {
+                    place: SlotPlace(at),
+                    length,
+                });
                 break 'segments;
             }
         }
-        turn += 1;
     }
     found
 }

@@ -1,16 +1,15 @@
 -- Laws of steps under a budget: nothing, one step, one call after another, a budget that is spent; bytes programmed in a loop; a part of the image.
 use mathlib.Core.Path.{◌≡◌, refl, sym, ap, ◌∙◌, subst}
 use Prim.Native.Nat.{ℕ, zero, suc, ◌+◌, ◌-◌, ◌*◌, ◌≤◌, ◌<◌, min}
-use native.Mathlib.Nat.{sub-zero, le_of_eq, add-zero, zero-add, suc-add, min-eq_left, min-eq_right, min-le_left}
+use native.Mathlib.Nat.{sub-zero, add-zero, zero-add, suc-add, min-eq_left, min-eq_right, min-le_left}
 use native.Mathlib.Numerals.{add-one}
 use native.Mathlib.Decide.{dec_le}
 use native.Mathlib.Omega.{arith}
-use mathlib.Core.List.{List, [], ◌∷◌, ◌++◌, append_assoc}
-use lib.ListN.{length, get_or, take, drop, set, replicate, length-append, length-drop, length-replicate, get_or-replicate, take-append-drop, get_or-append}
+use mathlib.Core.List.{List, [], ◌∷◌, ◌++◌}
+use lib.ListN.{length, get_or, take, drop, set, length-append, length-drop, take-append-drop, get_or-append}
 use lib.Bits.{bit_and}
-use lib.Seq.{take-suc, take-length, paste, paste-suc, take_all, get_or-append-add, set-append_left, length-take-le}
-use borrow.Author.Tests.{le-leb}
-use Rattle.model.specs.Chip.{Image, Step, program, erase, clear, erased, with_segment, step, run, run_first}
+use lib.Seq.{take-suc, take-length, take_all, get_or-append-add, set-append_left, length-take-le}
+use Rattle.model.specs.Chip.{Image, Step, program, erase, clear, step, run, run_first}
 use Rattle.model.specs.Steps.{programs, on_page}
 use Rattle.model.proofs.Laws.Chip.{step_length, run_length, run_append, first_append}
 use Rattle.flash.specs.Ran.{Ran, Programmed, shifted, Within}
@@ -105,27 +104,6 @@ programs_covered at n i bs s t h e B = record {
   image = e B ∙ ap (λ (l : List Step). run B l s) (ap (programs at) (rw h (take_covered n bs)) ∙ sym (take_programs at n bs));
   rest = omega (arith, length_programs at bs, min-le_left n (length bs));
 }
-
--- ---- erasing
-
--- a segment being erased: the first i of its bytes are 255
-abbrev pub erasing : ℕ → ℕ → ℕ → Image → Image
-erasing at n i s = paste s at (erased n) i
-
-pub erasing_next : (at n i : ℕ) (s : Image) → at + n ≤ length s → i < n → set (erasing at n i s) (at + i) 255 ≡ erasing at n (i + 1) s
-unfolding erased
-erasing_next at n i s h k =
-    ap (set (erasing at n i s) (at + i)) (sym (get_or-replicate n i 255 0 k))
-    ∙ paste-suc s at (replicate n 255) i 0 (omega arith) (rw length-replicate k)
-    ∙ ap (λ (j : ℕ). erasing at n j s) (sym (add-one i))
-
-pub erasing_end : (B i j : ℕ) (s : Image) → (i * (B + 1) + (B + 1)) * 256 ≤ length s → j ≡ (B + 1) * 256 → erasing (i * (B + 1) * 256) ((B + 1) * 256) j s ≡ step B (erase i) s
-unfolding erased step with_segment
-erasing_end B i j s h e =
-    let a : i * (B + 1) * 256 + (B + 1) * 256 ≡ (i * (B + 1) + (B + 1)) * 256 = omega arith in
-    let u : List ℕ = replicate ((B + 1) * 256) 255 in
-    let w : take ((B + 1) * 256) u ≡ u = take_all ((B + 1) * 256) u (le_of_eq (length-replicate ((B + 1) * 256) 255)) in
-    rw (e, a, w, le-leb ((i * (B + 1) + (B + 1)) * 256) (length s) h, append_assoc)
 
 -- ---- a part of the image: steps on it are the shifted steps on the whole
 

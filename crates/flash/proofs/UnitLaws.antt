@@ -1,19 +1,18 @@
 -- The laws of steps under a budget where a unit of S bytes is erased: as those of segments (Laws), and bytes programmed are so on either chip.
 use mathlib.Core.Path.{◌≡◌, refl, sym, ap, ◌∙◌}
 use Prim.Native.Nat.{ℕ, zero, suc, ◌+◌, ◌-◌, ◌*◌, ◌≤◌}
-use native.Mathlib.Nat.{sub-zero, le_of_eq}
+use native.Mathlib.Nat.{sub-zero}
 use native.Mathlib.Omega.{arith}
 use mathlib.Core.Bool.{Bool, true, false, cond}
-use mathlib.Core.List.{List, [], ◌∷◌, ◌++◌, append_assoc}
+use mathlib.Core.List.{List, [], ◌∷◌, ◌++◌}
 use lib.ListN.{length, get_or, take, drop, set, replicate, length-append, length-set, length-take, length-drop, length-replicate}
 use lib.Dec.{leb}
-use lib.Seq.{take_all}
+use lib.Seq.{length-take-le, drop-drop}
 use borrow.Author.Tests.{le-leb, leb-true}
-use Rattle.model.specs.Chip.{Image, Step, program, erase, clear, erased, step, run}
+use Rattle.model.specs.Chip.{Image, Step, program, erase, clear, erased, with_segment, step, run}
 use Rattle.model.proofs.Laws.Chip.{take_append}
-use Rattle.flash.specs.Ran.{Programmed, Within}
+use Rattle.flash.specs.Ran.{Ran, Programmed, Within}
 use Rattle.flash.specs.Units.{with_unit, step_in, run_in, RanIn}
-use Rattle.flash.proofs.Laws.{erasing}
 
 step_in_length : (S : ℕ) (x : Step) (s : Image) → length (step_in S x s) ≡ length s
 unfolding step_in with_unit erased
@@ -62,13 +61,28 @@ pub ◌then◌ : {xs ys : List Step} {S n n₁ n₂ : ℕ} {s s₁ s₂ : Image}
 pub length_in : {xs : List Step} {S n r : ℕ} {s u : Image} → RanIn xs S n r s u → length u ≡ length s
 length_in {xs} {S} {n} {r} {s} d = ap length d.image ∙ run_in_length S (take n xs) s
 
--- a unit whose bytes are all 255 is erased
-pub unit_erased : (S i j : ℕ) (s : Image) → i * S + S ≤ length s → j ≡ S → erasing (i * S) S j s ≡ step_in S (erase i) s
+-- a unit whose bytes are filled with 255 is erased
+pub unit_filled : (S i : ℕ) (s : Image) → i * S + S ≤ length s → take (i * S) s ++ (replicate (length (take S (drop (i * S) s))) 255 ++ drop S (drop (i * S) s)) ≡ step_in S (erase i) s
 unfolding erased step_in with_unit
-unit_erased S i j s h e =
-    let u : List ℕ = replicate S 255 in
-    let w : take S u ≡ u = take_all S u (le_of_eq (length-replicate S 255)) in
-    rw (e, w, le-leb (i * S + S) (length s) h, append_assoc)
+unit_filled S i s h =
+    rw (length-take-le S (drop (i * S) s) (omega (arith, length-drop (i * S) s)), drop-drop S (i * S) s, le-leb (i * S + S) (length s) h) refl
+
+-- a segment of B + 1 pages is a unit of as many bytes
+segment_is_unit : (B i : ℕ) (s : Image) → step_in ((B + 1) * 256) (erase i) s ≡ step B (erase i) s
+unfolding step_in with_unit step with_segment
+segment_is_unit B i s =
+    let a : i * ((B + 1) * 256) ≡ i * (B + 1) * 256 = omega arith in
+    let b : i * (B + 1) * 256 + (B + 1) * 256 ≡ (i * (B + 1) + (B + 1)) * 256 = omega arith in
+    rw (a, b) refl
+
+pub ran_unit : (B i : ℕ) {n m : ℕ} {s t : Image} → RanIn (erase i ∷ []) ((B + 1) * 256) n m s t → Ran (erase i ∷ []) B n m s t
+unfolding run run_in
+ran_unit B i {n} {m} {s} {t} d = record { image = d.image ∙ go n; rest = d.rest }
+  where
+    go : (k : ℕ) → run_in ((B + 1) * 256) (take k (erase i ∷ [])) s ≡ run B (take k (erase i ∷ [])) s
+    go zero = refl
+    go (suc zero) = segment_is_unit B i s
+    go (suc (suc k)) = segment_is_unit B i s
 
 -- bytes programmed are so whatever an erase would take
 same_programmed : (S n c : ℕ) (xs : List Step) (s : Image) → Within c xs → run_in S (take n xs) s ≡ run 0 (take n xs) s

@@ -1,7 +1,7 @@
 // Flash steps under a budget. Each function that writes takes the budget and returns what is left of it.
 #![tactic(auto)]
 
-ghost use Rattle.std.specs.Prelude.{◌≡◌, [], ◌∷◌, ◌+◌, ◌*◌, ◌<◌, ◌≤◌, min, length};
+ghost use Rattle.std.specs.Prelude.{◌≡◌, [], ◌∷◌, ◌+◌, ◌*◌, ◌<◌, ◌≤◌, length};
 ghost use Rattle.model.specs.Chip.{program, erase};
 ghost use Rattle.model.specs.Steps.{programs, program_part};
 ghost use Rattle.flash.specs.Ran.{Ran, Programmed};
@@ -19,26 +19,18 @@ pub fn program_byte(image: &mut [u8], at: usize, value: u8, budget: u64) -> u64
     budget - 1
 }
 
-pub fn least(a: usize, b: usize) -> usize
-    ensures { result ≡ min a b }
-{
-    if a < b { a } else { b }
-}
-
 // Programs bytes one after the other. How far the budget goes is found out before, so that nothing in the loop keeps the
 // compiler from clearing many bytes at a time.
 pub fn program_run(image: &mut [u8], at: usize, bytes: &[u8], budget: u64) -> u64
     requires { at + length bytes.now ≤ length image.old }
     ensures { Programmed (programs at bytes.now) budget result image.old image.new }
 {
-    let covered = least(budget as usize, bytes.len());
+    let covered = (budget as usize).min(bytes.len());
     let mut left = budget;
-    let mut i = 0;
-    while i < covered {
+    for i in 0..covered {
         let o = at + i;
         image[o] = image[o] & bytes[i];
         left -= 1;
-        i += 1;
     }
     left
 }
@@ -61,11 +53,7 @@ pub fn erase_unit(image: &mut [u8], index: usize, bytes: usize, budget: u64) -> 
         return 0;
     }
     let at = index * bytes;
-    let mut i = 0;
-    while i < bytes {
-        image[at + i] = 255;
-        i += 1;
-    }
+    image[at..at + bytes].fill(255);
     budget - 1
 }
 
@@ -74,15 +62,5 @@ pub fn erase_segment(image: &mut [u8], index: usize, slots: usize, budget: u64) 
     requires { (index * (slots + 1) + (slots + 1)) * 256 ≤ length image.old }
     ensures { Ran (erase index ∷ []) slots budget result image.old image.new }
 {
-    if budget == 0 {
-        return 0;
-    }
-    let at = index * (slots + 1) * 256;
-    let count = (slots + 1) * 256;
-    let mut i = 0;
-    while i < count {
-        image[at + i] = 255;
-        i += 1;
-    }
-    budget - 1
+    erase_unit(image, index, (slots + 1) * 256, budget)
 }

@@ -9,7 +9,7 @@ ghost use Rattle.moves.specs.Placed.{placed};
 ghost use Rattle.fresh.specs.Fresh.{listed, Pointing};
 
 use adding::{OPENING, Progress};
-use model::{Performed, SegmentNumber};
+use model::{Geometry, Performed, SegmentNumber};
 use places::LEAST_PLACES;
 
 // Builds a fresh image from the live slots of another that a table of places tells: formatted, then each written by rising
@@ -18,20 +18,20 @@ pub fn build(
     source: &[u8],
     places: &[u32],
     target: &mut [u8],
-    segments: usize,
-    slots: usize,
+    geometry: Geometry,
     budget: u64,
 ) -> Performed
-    requires { (right_size segments slots target.old ≡ true) × Pointing source.now places.now }
-    ensures { performed result target.new ≡ worked slots (record { code = 0; steps = format_steps segments slots ++ placed segments slots 0 0 (listed source.now places.now 1 65535) }) target.old budget }
+    requires { (right_size geometry.segments geometry.slots target.old ≡ true) × Pointing source.now places.now }
+    ensures { performed result target.new ≡ worked geometry.slots (record { code = 0; steps = format_steps geometry.segments geometry.slots ++ placed geometry.segments geometry.slots 0 0 (listed source.now places.now 1 65535) }) target.old budget }
 {
-    let formatted = store::format(target, segments, slots, budget);
+    let formatted = store::format(target, geometry.segments, geometry.slots, budget);
     let mut at = Progress {
         top: SegmentNumber(0),
-        free: slots,
+        free: geometry.slots,
         left: budget - formatted.steps,
-        steps: segments as u64 + OPENING,
+        steps: geometry.segments as u64 + OPENING,
     };
+    // Kept: the number jumps over the entries that are empty, and a `for` over all of them is slower (docs/PROVING.md, "Speed").
     let mut block: usize = 1;
     while block < LEAST_PLACES {
         let place = places[block] as usize;
@@ -41,7 +41,7 @@ pub fn build(
             continue;
         }
         let end = place + 256;
-        at = adding::add(target, segments, slots, &source[place..end], at);
+        at = adding::add(target, geometry, &source[place..end], at);
     }
     request::finished(budget, at.left, budget, at.steps)
 }

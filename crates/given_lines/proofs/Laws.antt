@@ -17,7 +17,7 @@ use Rattle.index.specs.Tables.{most_pages, page_of, of_block, Stands}
 use Rattle.block_lines.proofs.Laws.{page_segment, Blocks, blocks_more, blocks_none, blocks_room, blocks_end}
 use Rattle.skipping.specs.Passed.{Passed}
 use Rattle.salvage.specs.Salvage.{candidates, given, agreed, given_line}
-use Rattle.meeting.specs.Sheet.{Sheet}
+use Rattle.meeting.specs.declared.Sheet.{Sheet}
 use Rattle.candidates.specs.Gathered.{OneOf, Tells, Gathered}
 use Rattle.candidates.specs.Lie.{candidates_few, candidates_lie, given_below, given_few}
 

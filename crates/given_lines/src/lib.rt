@@ -9,8 +9,10 @@ ghost use Rattle.text.specs.Text.{text as ascii};
 ghost use Rattle.text.specs.Buffer.{Wrote, most_text};
 ghost use Rattle.account_text.specs.Account.{block_text, by_block};
 ghost use Rattle.salvage.specs.Salvage.{candidates, given, given_line};
-ghost use Rattle.meeting.specs.Sheet.{sheet};
 ghost use Rattle.candidates.specs.Gathered.{Gathered};
+
+use meeting::Sheet;
+use model::Geometry;
 
 // One line: the candidate given of a block, and whether another disagrees.
 fn given_line(
@@ -34,26 +36,24 @@ fn given_line(
 
 // One for each block number that has a candidate, by rising number. The image is named by the contract alone: what is
 // written comes from the tables.
+// Kept: the number jumps over the entries that are empty, and a `for` over all of them is slower (docs/PROVING.md, "Speed").
 pub fn given_lines(
     image: &[u8],
-    segments: usize,
-    slots: usize,
-    places: &[u32],
-    lengths: &[u8; 65536],
-    differs: &[bool; 65536],
+    geometry: Geometry,
+    sheet: &Sheet,
     text: &mut [u8],
     at: usize,
 ) -> usize
-    requires { (right_size segments slots image.now ≡ true) × Gathered segments slots image.now (sheet places.now lengths.now differs.now) × (at ≤ 100000) }
-    ensures { Wrote (flat_map (given_line (candidates segments (segments_of segments slots image.now))) (by_block (given (candidates segments (segments_of segments slots image.now))))) text.old at text.new result × (result ≤ at + 80 * 65536) }
+    requires { (right_size geometry.segments geometry.slots image.now ≡ true) × Gathered geometry.segments geometry.slots image.now sheet.now × (at ≤ 100000) }
+    ensures { Wrote (flat_map (given_line (candidates geometry.segments (segments_of geometry.segments geometry.slots image.now))) (by_block (given (candidates geometry.segments (segments_of geometry.segments geometry.slots image.now))))) text.old at text.new result × (result ≤ at + 80 * 65536) }
 {
-    let pages = slots as u32 + 1;
+    let pages = geometry.slots as u32 + 1;
     let mut end = at;
     let mut block: usize = 0;
     while block < 65536 {
-        let place = places[block];
+        let place = sheet.places[block];
         if place == 0 {
-            block = skipping::pass_empty(places, block + 1);
+            block = skipping::pass_empty(&sheet.places, block + 1);
             continue;
         }
         let page = place / 256;
@@ -61,10 +61,10 @@ pub fn given_lines(
             text,
             end,
             block as u32,
-            lengths[block] as u32,
+            u32::from(sheet.lengths[block]),
             page / pages,
             page % pages,
-            differs[block],
+            sheet.differs[block],
         );
         block += 1;
     }

@@ -6,7 +6,7 @@ ghost use Rattle.model.specs.Header.{is_former, header_number, header_version};
 ghost use Rattle.model.specs.Steps.{header_at};
 ghost use Rattle.header.specs.Parts.{header_total, header_fields};
 
-use model::SegmentNumber;
+use model::{Geometry, SegmentNumber};
 
 // Status bytes, by the names of the model's definitions.
 pub const OPENED: u8 = 0x3F;
@@ -30,25 +30,12 @@ const VERSION_2: u8 = 2;
 
 // ---- taken apart
 
-pub fn low_byte(x: usize) -> u8
-    ensures { result ≡ x % 256 }
-{
-    (x % 256) as u8
-}
-
-// Four bytes as a number, low byte first.
-fn long(a: u8, b: u8, c: u8, d: u8) -> u32
-    ensures { result ≡ a + 256 * (b + 256 * (c + 256 * d)) }
-{
-    a as u32 + 256 * (b as u32 + 256 * (c as u32 + 256 * (d as u32)))
-}
-
 // The number in a header page, in use or not.
 pub fn header_number(page: &[u8]) -> SegmentNumber
     requires { length page.now ≡ 256 }
     ensures { result.0 ≡ header_number page.now }
 {
-    SegmentNumber(long(page[8], page[9], page[10], page[11]))
+    SegmentNumber(u32::from_le_bytes([page[8], page[9], page[10], page[11]]))
 }
 
 // The total in a header page, in use or not.
@@ -56,7 +43,7 @@ pub fn header_total(page: &[u8]) -> usize
     requires { length page.now ≡ 256 }
     ensures { (result ≡ header_total page.now) × (result < 4294967296) }
 {
-    long(page[17], page[18], page[19], page[20]) as usize
+    u32::from_le_bytes([page[17], page[18], page[19], page[20]]) as usize
 }
 
 // Whether a header page, in use or not, has version 1: what has not version 2 is taken for it.
@@ -69,17 +56,15 @@ pub fn is_former(page: &[u8]) -> bool
 
 // The fields that both versions have, made up among erased bytes.
 pub fn header_fields(
-    segments: usize,
-    slots: usize,
+    geometry: Geometry,
     former: bool,
     status: u8,
     number: SegmentNumber,
     old: u8,
 ) -> [u8; 256]
-    requires { (segments ≤ 255) × (slots ≤ 255) }
-    ensures { result ≡ header_fields segments slots former status number.0 old }
+    requires { (geometry.segments ≤ 255) × (geometry.slots ≤ 255) }
+    ensures { result ≡ header_fields geometry.segments geometry.slots former status number.0 old }
 {
-    let n = number.0 as usize;
     let mut page = [255u8; 256];
     page[0] = b'S';
     page[1] = b'L';
@@ -87,12 +72,9 @@ pub fn header_fields(
     page[3] = if former { 1 } else { VERSION_2 };
     page[4] = 0;
     page[5] = status;
-    page[6] = slots as u8;
-    page[7] = segments as u8;
-    page[8] = low_byte(n);
-    page[9] = low_byte(n / 256);
-    page[10] = low_byte(n / 256 / 256);
-    page[11] = low_byte(n / 256 / 256 / 256);
+    page[6] = geometry.slots as u8;
+    page[7] = geometry.segments as u8;
+    page[8..12].copy_from_slice(&number.0.to_le_bytes());
     page[12] = 255 - page[8];
     page[13] = 255 - page[9];
     page[14] = 255 - page[10];
@@ -104,9 +86,9 @@ pub fn header_fields(
 // ---- its place
 
 // The offset of the header page of the segment with a number.
-pub fn header_place(segments: usize, slots: usize, number: SegmentNumber) -> usize
-    requires { (0 < segments) × (segments ≤ 255) × (slots ≤ 255) }
-    ensures { result ≡ header_at segments slots number.0 * 256 }
+pub fn header_place(geometry: Geometry, number: SegmentNumber) -> usize
+    requires { (0 < geometry.segments) × (geometry.segments ≤ 255) × (geometry.slots ≤ 255) }
+    ensures { result ≡ header_at geometry.segments geometry.slots number.0 * 256 }
 {
-    number.0 as usize % segments * (slots + 1) * 256
+    number.0 as usize % geometry.segments * (geometry.slots + 1) * 256
 }

@@ -2,37 +2,18 @@
 #![tactic(auto)]
 
 ghost use Rattle.std.specs.Prelude.{◌≡◌, ◌<◌, ◌≤◌, length};
-ghost use Rattle.model.specs.Lists.{same};
 ghost use Rattle.model.specs.Header.{header_in_use, old_index, status_in_use};
 ghost use Rattle.header_seen.specs.Seen.{tally_fits, header_seen};
 
 use header::{BITS, COMPACTED, ERASE_PENDING, FIELDS, NO_OLD_SEGMENT, OPENED, TOTAL_END};
-use model::{ERASE_LIMIT, SegmentNumber};
+use model::{ERASE_LIMIT, Geometry, SegmentNumber};
 
-// A header page: of a segment in use, whether it has version 1, its status and its number.
+// The header page of a segment in use: whether it has version 1, its status and its number.
 #[derive(Clone, Copy)]
-pub enum HeaderSeen {
-    InUse {
-        former: bool,
-        status: u8,
-        number: SegmentNumber,
-    },
-    NotInUse,
-}
-
-// Whether two runs of bytes are the same.
-fn same_bytes(a: &[u8], b: &[u8]) -> bool
-    requires { length a.now ≡ length b.now }
-    ensures { result ≡ same a.now b.now }
-{
-    let mut i = 0;
-    while i < a.len() {
-        if a[i] != b[i] {
-            return false;
-        }
-        i += 1;
-    }
-    true
+pub struct HeaderInUse {
+    pub former: bool,
+    pub status: u8,
+    pub number: SegmentNumber,
 }
 
 // The index of the old segment in a header in use: the one after its own, or none.
@@ -76,9 +57,9 @@ fn tally_fits(page: &[u8]) -> bool
 }
 
 // Whether a header is that of a segment in use at an index.
-pub fn header_in_use(page: &[u8], segments: usize, slots: usize, index: usize) -> bool
-    requires { (length page.now ≡ 256) × (0 < segments) × (segments ≤ 255) × (slots ≤ 255) }
-    ensures { result ≡ header_in_use segments slots index page.now }
+pub fn header_in_use(page: &[u8], geometry: Geometry, index: usize) -> bool
+    requires { (length page.now ≡ 256) × (0 < geometry.segments) × (geometry.segments ≤ 255) × (geometry.slots ≤ 255) }
+    ensures { result ≡ header_in_use geometry.segments geometry.slots index page.now }
 {
     let status = page[5];
     if !status_in_use(status) {
@@ -86,37 +67,36 @@ pub fn header_in_use(page: &[u8], segments: usize, slots: usize, index: usize) -
     }
     let number = header::header_number(page);
     let n = number.0 as usize;
-    if n >= ERASE_LIMIT * segments {
+    if n >= ERASE_LIMIT * geometry.segments {
         return false;
     }
-    if n % segments != index {
+    if n % geometry.segments != index {
         return false;
     }
     let fitting = header::header_fields(
-        segments,
-        slots,
+        geometry,
         header::is_former(page),
         status,
         number,
-        old_index(segments, index, status),
+        old_index(geometry.segments, index, status),
     );
-    if !same_bytes(&page[0..FIELDS], &fitting[0..FIELDS]) {
+    if page[0..FIELDS] != fitting[0..FIELDS] {
         return false;
     }
     tally_fits(page)
 }
 
-// What the header of a segment in use says.
-pub fn see_header(page: &[u8], segments: usize, slots: usize, index: usize) -> HeaderSeen
-    requires { (length page.now ≡ 256) × (0 < segments) × (segments ≤ 255) × (slots ≤ 255) }
-    ensures { result ≡ header_seen segments slots index page.now }
+// What the header of a segment in use says; nothing, if it is not one.
+pub fn see_header(page: &[u8], geometry: Geometry, index: usize) -> Option<HeaderInUse>
+    requires { (length page.now ≡ 256) × (0 < geometry.segments) × (geometry.segments ≤ 255) × (geometry.slots ≤ 255) }
+    ensures { result ≡ header_seen geometry.segments geometry.slots index page.now }
 {
-    if header_in_use(page, segments, slots, index) {
-        return HeaderSeen::InUse {
+    if header_in_use(page, geometry, index) {
+        return Some(HeaderInUse {
             former: header::is_former(page),
             status: page[5],
             number: header::header_number(page),
-        };
+        });
     }
-    HeaderSeen::NotInUse
+    None
 }

@@ -4,7 +4,7 @@ use mathlib.Core.Path.{◌≡◌}
 use mathlib.Core.Bool.{false}
 use mathlib.Core.List.{[], ◌∷◌, ◌++◌, append_assoc}
 use native.Mathlib.Omega.{arith}
-use lib.ListN.{length, take, drop, set}
+use lib.ListN.{length, take, drop}
 use Rattle.model.specs.Chip.{Image, Page, program, erased}
 use Rattle.model.specs.Header.{number_bytes, inverted, opening_begun, opened, compaction_begun, erase_pending, compacted, no_old_segment, Version, new_version, version_number, tally_bytes, header_page}
 use Rattle.model.specs.Steps.{program_part, on_page, header_at, open_segment, settle}
@@ -16,7 +16,7 @@ use Rattle.header.specs.Parts.{header_fields}
 use Rattle.header_steps.specs.Parts.{header_begun, header_finished, begin_compaction, finish_copy}
 
 pub page_made : (N B t st n old a b c d : ℕ) (p : Page) → p ≡ header_fields N B false st n old → a ≡ t % 256 → b ≡ t / 256 % 256 → c ≡ t / 256 / 256 % 256 → d ≡ t / 256 / 256 / 256 % 256
-    → set (set (set (set p 17 a) 18 b) 19 c) 20 d ≡ header_page N B (new_version t) st n old
+    → take 17 p ++ (a ∷ b ∷ c ∷ d ∷ drop 4 (drop 17 p)) ≡ header_page N B (new_version t) st n old
 unfolding header_fields header_page number_bytes inverted erased new_version version_number tally_bytes
 page_made N B t st n old a b c d p e ea eb ec ed = rw (e, ea, eb, ec, ed)
 

@@ -9,7 +9,7 @@ ghost use Rattle.flash.specs.Pages.{Sized};
 ghost use Rattle.header_steps.specs.Parts.{header_begun, header_finished, begin_compaction, finish_copy};
 
 use header::{COMPACTED, ERASE_PENDING, FIELDS, NO_OLD_SEGMENT, OPENED, TOTAL_END};
-use model::SegmentNumber;
+use model::{Geometry, SegmentNumber};
 
 // Status bytes of a segment that is not in use yet, by the names of the model's definitions.
 const OPENING_BEGUN: u8 = 0x7F;
@@ -18,37 +18,32 @@ const COMPACTION_BEGUN: u8 = 0xDF;
 
 // A new header page, of version 2: this total, and every bit set.
 fn header_page(
-    segments: usize,
-    slots: usize,
+    geometry: Geometry,
     total: usize,
     status: u8,
     number: SegmentNumber,
     old: u8,
 ) -> [u8; 256]
-    requires { (segments ≤ 255) × (slots ≤ 255) }
-    ensures { result ≡ header_page segments slots (new_version total) status number.0 old }
+    requires { (geometry.segments ≤ 255) × (geometry.slots ≤ 255) }
+    ensures { result ≡ header_page geometry.segments geometry.slots (new_version total) status number.0 old }
 {
-    let mut page = header::header_fields(segments, slots, false, status, number, old);
-    page[17] = header::low_byte(total);
-    page[18] = header::low_byte(total / 256);
-    page[19] = header::low_byte(total / 256 / 256);
-    page[20] = header::low_byte(total / 256 / 256 / 256);
+    let mut page = header::header_fields(geometry, false, status, number, old);
+    page[FIELDS..TOTAL_END].copy_from_slice(&total.to_le_bytes()[0..4]);
     page
 }
 
 // The header page of a compaction's target.
 fn compaction_page(
-    segments: usize,
-    slots: usize,
+    geometry: Geometry,
     total: usize,
     old: SegmentNumber,
     number: SegmentNumber,
 ) -> [u8; 256]
-    requires { (0 < segments) × (segments ≤ 255) × (slots ≤ 255) }
-    ensures { result ≡ header_page segments slots (new_version total) erase_pending number.0 (old.0 % segments) }
+    requires { (0 < geometry.segments) × (geometry.segments ≤ 255) × (geometry.slots ≤ 255) }
+    ensures { result ≡ header_page geometry.segments geometry.slots (new_version total) erase_pending number.0 (old.0 % geometry.segments) }
 {
-    let index = old.0 as usize % segments;
-    header_page(segments, slots, total, ERASE_PENDING, number, index as u8)
+    let index = old.0 as usize % geometry.segments;
+    header_page(geometry, total, ERASE_PENDING, number, index as u8)
 }
 
 // The first steps in a header: a status, then what every segment's header has.
@@ -74,17 +69,16 @@ fn finish_header(header: &mut [u8], made: &[u8], status: u8, budget: u64) -> u64
 // Opens the segment that a number belongs to.
 pub fn open_header(
     image: &mut [u8],
-    segments: usize,
-    slots: usize,
+    geometry: Geometry,
     total: usize,
     number: SegmentNumber,
     budget: u64,
 ) -> u64
-    requires { Sized segments slots (length image.old) }
-    ensures { Programmed (open_segment segments slots (new_version total) number.0) budget result image.old image.new }
+    requires { Sized geometry.segments geometry.slots (length image.old) }
+    ensures { Programmed (open_segment geometry.segments geometry.slots (new_version total) number.0) budget result image.old image.new }
 {
-    let made = header_page(segments, slots, total, OPENED, number, NO_OLD_SEGMENT);
-    let at = header::header_place(segments, slots, number);
+    let made = header_page(geometry, total, OPENED, number, NO_OLD_SEGMENT);
+    let at = header::header_place(geometry, number);
     let end = at + 256;
     let header = &mut image[at..end];
     let begun = begin_header(header, &made, OPENING_BEGUN, budget);
@@ -94,18 +88,17 @@ pub fn open_header(
 // Begins to compact an old segment into the one that a number belongs to: the steps in the header before the slots are copied.
 pub fn begin_compaction(
     image: &mut [u8],
-    segments: usize,
-    slots: usize,
+    geometry: Geometry,
     total: usize,
     old: SegmentNumber,
     number: SegmentNumber,
     budget: u64,
 ) -> u64
-    requires { Sized segments slots (length image.old) }
-    ensures { Programmed (begin_compaction segments slots (new_version total) old.0 number.0) budget result image.old image.new }
+    requires { Sized geometry.segments geometry.slots (length image.old) }
+    ensures { Programmed (begin_compaction geometry.segments geometry.slots (new_version total) old.0 number.0) budget result image.old image.new }
 {
-    let made = compaction_page(segments, slots, total, old, number);
-    let at = header::header_place(segments, slots, number);
+    let made = compaction_page(geometry, total, old, number);
+    let at = header::header_place(geometry, number);
     let end = at + 256;
     let header = &mut image[at..end];
     let begun = begin_header(header, &made, COMPACTION_BEGUN, budget);
@@ -115,33 +108,26 @@ pub fn begin_compaction(
 // The steps in the header once the slots are copied: the segment is in use, and the old one is still to be erased.
 pub fn finish_copy(
     image: &mut [u8],
-    segments: usize,
-    slots: usize,
+    geometry: Geometry,
     total: usize,
     old: SegmentNumber,
     number: SegmentNumber,
     budget: u64,
 ) -> u64
-    requires { Sized segments slots (length image.old) }
-    ensures { Programmed (finish_copy segments slots (new_version total) old.0 number.0) budget result image.old image.new }
+    requires { Sized geometry.segments geometry.slots (length image.old) }
+    ensures { Programmed (finish_copy geometry.segments geometry.slots (new_version total) old.0 number.0) budget result image.old image.new }
 {
-    let made = compaction_page(segments, slots, total, old, number);
-    let at = header::header_place(segments, slots, number);
+    let made = compaction_page(geometry, total, old, number);
+    let at = header::header_place(geometry, number);
     let end = at + 256;
     finish_header(&mut image[at..end], &made, ERASE_PENDING, budget)
 }
 
 // The last step of a compaction, once the old segment is erased.
-pub fn settle(
-    image: &mut [u8],
-    segments: usize,
-    slots: usize,
-    number: SegmentNumber,
-    budget: u64,
-) -> u64
-    requires { Sized segments slots (length image.old) }
-    ensures { Programmed (settle segments slots number.0) budget result image.old image.new }
+pub fn settle(image: &mut [u8], geometry: Geometry, number: SegmentNumber, budget: u64) -> u64
+    requires { Sized geometry.segments geometry.slots (length image.old) }
+    ensures { Programmed (settle geometry.segments geometry.slots number.0) budget result image.old image.new }
 {
-    let at = header::header_place(segments, slots, number);
+    let at = header::header_place(geometry, number);
     flash::program_byte(image, at + 5, COMPACTED, budget)
 }

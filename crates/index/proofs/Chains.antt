@@ -8,7 +8,8 @@ use Rattle.std.proofs.Math.ListN.{get_or-eq_default}
 use Rattle.std.proofs.lemmas.Bool.{eqb-false}
 use Rattle.model.specs.Chip.{most_segments, most_slots}
 use Rattle.account_text.specs.Account.{LiveSlot}
-use Rattle.index.specs.Tables.{Tables, tables, most_pages, link, linked, page_of, of_block, Chain, Listed, Stands, AllStand}
+use Rattle.index.specs.declared.Tables.{Tables}
+use Rattle.index.specs.Tables.{tables, most_pages, link, linked, page_of, of_block, Chain, Listed, Stands, AllStand}
 
 -- ---- pages that differ
 

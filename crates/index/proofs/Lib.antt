@@ -3,3 +3,4 @@ pub mod Chains
 pub mod Lives
 pub mod Walks
 pub mod Sorted
+pub mod Zero

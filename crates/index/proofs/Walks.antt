@@ -21,7 +21,8 @@ use Rattle.model.proofs.Laws.Effects.{numbered_at}
 use Rattle.judge.specs.Rows.{slots_at}
 use Rattle.judge.specs.Parts.{slots_offset, used_slots}
 use Rattle.account_text.specs.Account.{LiveSlot, live_from, live_in, live_slots, unseen, shown_in, shown}
-use Rattle.index.specs.Tables.{Tables, linked, page_of, Stands, AllStand, list_of, Indexed}
+use Rattle.index.specs.declared.Tables.{Tables}
+use Rattle.index.specs.Tables.{linked, page_of, Stands, AllStand, list_of, Indexed}
 use Rattle.index.proofs.Chains.{Free, AllApart, Whole, Bare, linked_listed}
 use Rattle.index.proofs.Lives.{Each, each_join, each_more, all_stand, apart_join, From, from_all, apart_from, from_few, row_stands}
 

@@ -5,11 +5,7 @@ use Rattle.model.specs.declared.SlotKind.TheVariants.{Empty, Torn, Live, Dead, C
 use Rattle.model.specs.Chip.{Image}
 use Rattle.model.specs.State.{segments_of}
 use Rattle.account_text.specs.Account.{LiveSlot, shown, live_slots}
-
-pub record Tables : Type 0 where
-  pub firsts : List ℕ
-  pub nexts : List ℕ
-  pub lengths : List ℕ
+use Rattle.index.specs.declared.Tables.{Tables}
 
 abbrev pub tables : List ℕ → List ℕ → List ℕ → Tables
 tables f n l = record { firsts = f; nexts = n; lengths = l }

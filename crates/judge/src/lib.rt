@@ -58,6 +58,7 @@ pub struct HeaderCounts {
 }
 
 // The segments in use: the smallest number, how many, and whether conditions 1 to 4 of document 01's Clean hold.
+// Kept: `fine` beside the two, no Option: the number and the count are told of any frame (`frame_of`), and `exam_of` hands them on.
 #[derive(Clone, Copy)]
 pub struct Frame {
     pub first: usize,

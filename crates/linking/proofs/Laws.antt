@@ -17,7 +17,8 @@ use Rattle.account_text.specs.Account.{LiveSlot, live_at, live_from}
 use Rattle.index.specs.declared.Counts.{Counts}
 use Rattle.index.specs.Shows.{no_counts, counts_of}
 use Rattle.linking.specs.Counts.{count_kind, count_row, Few}
-use Rattle.index.specs.Tables.{Tables, link, link_kind, link_row, linked, page_of}
+use Rattle.index.specs.declared.Tables.{Tables}
+use Rattle.index.specs.Tables.{link, link_kind, link_row, linked, page_of}
 
 -- ---- counts
 

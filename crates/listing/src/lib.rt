@@ -11,58 +11,47 @@ ghost use Rattle.scan.specs.Surveys.{survey_of};
 ghost use Rattle.account_text.specs.Account.{shown};
 ghost use Rattle.descent.specs.Descent.{largest};
 ghost use Rattle.index.specs.Shows.{no_counts, shown_as, shown_of, uncounted, counted, after_shown};
-ghost use Rattle.index.specs.Tables.{tables, linked, list_of, Indexed};
+ghost use Rattle.index.specs.Tables.{linked, list_of, Indexed};
 ghost use Rattle.listing.specs.Walk.{hidden};
 
-use index::{Counts, Shown};
+use index::{Counts, Shown, Tables};
 use judge::{SegmentState, Summary};
-use model::{MOST_SEGMENTS, SegmentNumber};
+use model::{Geometry, MOST_SEGMENTS, SegmentNumber};
 use scan::Surveyed;
-
-fn no_counts() -> Counts
-    ensures { result ≡ no_counts }
-{
-    linking::counts_of(0, 0, 0, 0)
-}
 
 // A segment before its slots are counted.
 fn plain(state: SegmentState, number: SegmentNumber) -> Shown
     ensures { result ≡ shown_as state number.0 no_counts }
 {
-    let counts = no_counts();
     Shown {
         number,
-        counts,
+        counts: Counts::default(),
         state,
     }
 }
 
 // The same, of its summary.
+#[tactic(auto, unfolding(judge::specs::Heads::bare, judge::specs::Heads::bare_of, judge::specs::Heads::state_seen, index::specs::Shows::uncounted))]
 fn begin(s: Summary) -> Shown
     ensures { result ≡ uncounted (bare s) }
 {
-    let state = s.state;
-    let number = s.number;
-    match state {
+    match s.state {
         SegmentState::Blank => plain(SegmentState::Blank, SegmentNumber(0)),
         SegmentState::Invalid => plain(SegmentState::Invalid, SegmentNumber(0)),
-        SegmentState::InUse => plain(SegmentState::InUse, number),
-        SegmentState::Owing => plain(SegmentState::Owing, number),
+        SegmentState::InUse => plain(SegmentState::InUse, s.number),
+        SegmentState::Owing => plain(SegmentState::Owing, s.number),
     }
 }
 
 // The segments by index.
-fn see_all(image: &[u8], segments: usize, slots: usize) -> [Shown; MOST_SEGMENTS]
-    requires { Sized segments slots (length image.now) }
-    ensures { take segments result ≡ map uncounted (segments_of segments slots image.now) }
+fn see_all(image: &[u8], geometry: Geometry) -> [Shown; MOST_SEGMENTS]
+    requires { Sized geometry.segments geometry.slots (length image.now) }
+    ensures { take geometry.segments result ≡ map uncounted (segments_of geometry.segments geometry.slots image.now) }
 {
     let none = plain(SegmentState::Blank, SegmentNumber(0));
     let mut table = [none; MOST_SEGMENTS];
-    let mut i: usize = 0;
-    while i < segments {
-        let s = summary::see_segment(image, segments, slots, i);
-        table[i] = begin(s);
-        i += 1;
+    for i in 0..geometry.segments {
+        table[i] = begin(summary::see_segment(image, geometry, i));
     }
     table
 }
@@ -74,41 +63,28 @@ fn hide(table: [Shown; MOST_SEGMENTS], segments: usize, survey: Surveyed) -> [Sh
     requires { (0 < segments) × (segments ≤ most_segments) }
     ensures { result ≡ hidden survey segments table }
 {
-    let mut shown = table;
-    match survey {
-        Surveyed::Clean {
-            first: _,
-            used: _,
-            live: _,
-            free: _,
-            compactions: _,
-        } => shown,
-        Surveyed::TornSegment { top: _ } => shown,
-        Surveyed::ErasePending { top, blank } => {
-            if blank {
-                return shown;
-            }
-            let after = (top.0 as usize + 1) % segments;
-            shown[after] = plain(SegmentState::Invalid, SegmentNumber(0));
-            shown
-        }
-        Surveyed::TornSlot { place: _ } => shown,
-        Surveyed::OldSlot { place: _ } => shown,
-        Surveyed::Damaged => shown,
+    let Surveyed::ErasePending { top, blank } = survey else {
+        return table;
+    };
+    if blank {
+        return table;
     }
+    let mut shown = table;
+    let after = (top.0 as usize + 1) % segments;
+    shown[after] = plain(SegmentState::Invalid, SegmentNumber(0));
+    shown
 }
 
 // One more than the number of a segment in use, or 0.
+#[tactic(auto, unfolding(index::specs::Shows::after_shown, index::specs::Shows::after_by))]
 fn number_after(x: Shown) -> usize
     ensures { result ≡ after_shown x }
 {
-    let state = x.state;
-    let number = x.number;
-    match state {
+    match x.state {
         SegmentState::Blank => 0,
         SegmentState::Invalid => 0,
-        SegmentState::InUse => number.0 as usize + 1,
-        SegmentState::Owing => number.0 as usize + 1,
+        SegmentState::InUse => x.number.0 as usize + 1,
+        SegmentState::Owing => x.number.0 as usize + 1,
     }
 }
 
@@ -118,60 +94,48 @@ fn numbers(table: [Shown; MOST_SEGMENTS], segments: usize) -> [usize; MOST_SEGME
     ensures { (take segments result ≡ map after_shown (take segments table)) × (length result ≡ most_segments) }
 {
     let mut left = [0usize; MOST_SEGMENTS];
-    let mut i: usize = 0;
-    while i < segments {
-        let x = table[i];
-        left[i] = number_after(x);
-        i += 1;
+    for i in 0..segments {
+        left[i] = number_after(table[i]);
     }
     left
 }
 
+#[tactic(auto, unfolding(index::specs::Shows::counted))]
 fn count(x: Shown, counts: Counts) -> Shown
     ensures { result ≡ counted counts x }
 {
-    let number = x.number;
-    let state = x.state;
-    Shown {
-        number,
-        counts,
-        state,
-    }
+    Shown { counts, ..x }
 }
 
 // The segments in use, from the top down: counted, and their live slots put into the tables.
 fn list_segments(
     image: &[u8],
-    segments: usize,
-    slots: usize,
+    geometry: Geometry,
     table: [Shown; MOST_SEGMENTS],
-    firsts: &mut [u16; 65536],
-    nexts: &mut [u16; 65536],
-    lengths: &mut [u8; 65536],
+    tables: &mut Tables,
 ) -> [Shown; MOST_SEGMENTS]
-    requires { Sized segments slots (length image.now) × (take segments table ≡ map uncounted (shown segments slots (segments_of segments slots image.now))) }
-    ensures { (take segments result ≡ map shown_of (shown segments slots (segments_of segments slots image.now))) × (tables firsts.new nexts.new lengths.new ≡ linked slots (list_of segments slots image.now) (tables firsts.old nexts.old lengths.old)) }
+    requires { Sized geometry.segments geometry.slots (length image.now) × (take geometry.segments table ≡ map uncounted (shown geometry.segments geometry.slots (segments_of geometry.segments geometry.slots image.now))) }
+    ensures { (take geometry.segments result ≡ map shown_of (shown geometry.segments geometry.slots (segments_of geometry.segments geometry.slots image.now))) × (tables.new ≡ linked geometry.slots (list_of geometry.segments geometry.slots image.now) tables.old) }
 {
     let mut shown = table;
-    let mut left = numbers(table, segments);
-    let mut top = descent::largest(&left, segments);
+    let mut left = numbers(table, geometry.segments);
+    let mut top = descent::largest(&left, geometry.segments);
     while top > 0 {
-        let index = (top - 1) % segments;
-        let counts = linking::list_row(image, index * (slots + 1), slots, firsts, nexts, lengths);
-        let x = shown[index];
-        shown[index] = count(x, counts);
+        let index = (top - 1) % geometry.segments;
+        let counts = linking::list_row(image, index * (geometry.slots + 1), geometry.slots, tables);
+        shown[index] = count(shown[index], counts);
         left[index] = 0;
-        top = descent::largest(&left, segments);
+        top = descent::largest(&left, geometry.segments);
     }
     shown
 }
 
 // The segments of an image as they are shown, before their slots are counted.
-pub fn see(image: &[u8], segments: usize, slots: usize, survey: Surveyed) -> [Shown; MOST_SEGMENTS]
-    requires { (right_size segments slots image.now ≡ true) × (survey ≡ survey_of segments slots (segments_of segments slots image.now)) }
-    ensures { take segments result ≡ map uncounted (shown segments slots (segments_of segments slots image.now)) }
+pub fn see(image: &[u8], geometry: Geometry, survey: Surveyed) -> [Shown; MOST_SEGMENTS]
+    requires { (right_size geometry.segments geometry.slots image.now ≡ true) × (survey ≡ survey_of geometry.segments geometry.slots (segments_of geometry.segments geometry.slots image.now)) }
+    ensures { take geometry.segments result ≡ map uncounted (shown geometry.segments geometry.slots (segments_of geometry.segments geometry.slots image.now)) }
 {
-    hide(see_all(image, segments, slots), segments, survey)
+    hide(see_all(image, geometry), geometry.segments, survey)
 }
 
 // The number after the top's, or 0 if no segment of a table is in use.
@@ -188,16 +152,13 @@ pub fn next_number(table: [Shown; MOST_SEGMENTS], segments: usize) -> usize
 #[inline(never)]
 pub fn list(
     image: &[u8],
-    segments: usize,
-    slots: usize,
+    geometry: Geometry,
     survey: Surveyed,
-    firsts: &mut [u16; 65536],
-    nexts: &mut [u16; 65536],
-    lengths: &mut [u8; 65536],
+    tables: &mut Tables,
 ) -> [Shown; MOST_SEGMENTS]
-    requires { (right_size segments slots image.now ≡ true) × (survey ≡ survey_of segments slots (segments_of segments slots image.now)) × (firsts.old ≡ replicate 65536 0) × (nexts.old ≡ replicate 65536 0) × (lengths.old ≡ replicate 65536 0) }
-    ensures { (take segments result ≡ map shown_of (shown segments slots (segments_of segments slots image.now))) × Indexed segments slots image.now (tables firsts.new nexts.new lengths.new) }
+    requires { (right_size geometry.segments geometry.slots image.now ≡ true) × (survey ≡ survey_of geometry.segments geometry.slots (segments_of geometry.segments geometry.slots image.now)) × (tables.old.firsts ≡ replicate 65536 0) × (tables.old.nexts ≡ replicate 65536 0) × (tables.old.lengths ≡ replicate 65536 0) }
+    ensures { (take geometry.segments result ≡ map shown_of (shown geometry.segments geometry.slots (segments_of geometry.segments geometry.slots image.now))) × Indexed geometry.segments geometry.slots image.now tables.new }
 {
-    let table = see(image, segments, slots, survey);
-    list_segments(image, segments, slots, table, firsts, nexts, lengths)
+    let table = see(image, geometry, survey);
+    list_segments(image, geometry, table, tables)
 }

@@ -2,12 +2,12 @@
 use Prim.Native.Nat.{ℕ, zero, suc, ◌+◌, ◌-◌, ◌*◌, ◌%◌, ◌≤◌, ◌<◌}
 use mathlib.Core.Path.{◌≡◌, refl, sym, ap, ap₂, ◌∙◌, subst}
 use mathlib.Core.Logic.{◌≢◌}
-use mathlib.Core.List.{List, [], ◌∷◌, ◌++◌, append-nil, map, flat_map}
-use native.Mathlib.Nat.{zero-add, mul-le-mul_right, suc-mul, mod-lt, mod-mod, mod-eq_of_lt}
+use mathlib.Core.List.{List, [], ◌∷◌, ◌++◌, map, flat_map}
+use native.Mathlib.Nat.{mul-le-mul_right, suc-mul, mod-lt, mod-mod, mod-eq_of_lt}
 use native.Mathlib.Numerals.{add-one}
 use native.Mathlib.Omega.{arith}
-use lib.ListN.{length, get_or, take, drop, set, replicate, drop_of_length-le}
-use lib.Seq.{paste, paste-suc, take_all, drop-cons, take-append_seam, get_or-set_other, get_or-take, get_or-drop}
+use lib.ListN.{length, get_or, take, drop, drop_of_length-le}
+use lib.Seq.{drop-cons, take-append_seam, get_or-set_other, get_or-take, get_or-drop}
 use Rattle.model.specs.declared.BlockNumber.{BlockNumber}
 use Rattle.model.specs.declared.SlotKind.{SlotKind}
 use Rattle.model.specs.declared.SlotKind.TheVariants.{Live}
@@ -27,15 +27,6 @@ use Rattle.slot.proofs.Laws.Kinds.{Other, other_holds}
 use Rattle.slot.specs.Parts.{slot_parts}
 use Rattle.slot.proofs.Laws.Writes.{slot_parts_lem, write_within}
 use Rattle.live_slots.specs.Live.{live_entries, first_slot, Apart, Copied}
-
--- ---- a page by value
-
-pub page_turn : (p s : List ℕ) (i : ℕ) → length p ≡ 256 → length s ≡ 256 → i < 256 → set (paste p 0 s i) i (get_or s i 0) ≡ paste p 0 s (i + 1)
-page_turn p s i lp ls h =
-    ap (λ (k : ℕ). set (paste p 0 s i) k (get_or s i 0)) (sym (zero-add i)) ∙ paste-suc p 0 s i 0 (omega arith) (omega arith) ∙ ap (paste p 0 s) (sym (add-one i))
-
-pub page_whole : (s : List ℕ) (i : ℕ) → length s ≡ 256 → i ≡ 256 → paste (replicate 256 255) 0 s i ≡ s
-page_whole s i l e = ap (paste (replicate 256 255) 0 s) e ∙ append-nil (take 256 s) ∙ take_all 256 s (omega arith)
 
 -- ---- a live slot by its kind
 

@@ -12,11 +12,7 @@ pub fn page_of(bytes: &[u8]) -> [u8; 256]
     ensures { result ≡ bytes.now }
 {
     let mut page = [255u8; 256];
-    let mut i = 0;
-    while i < 256 {
-        page[i] = bytes[i];
-        i += 1;
-    }
+    page.copy_from_slice(bytes);
     page
 }
 

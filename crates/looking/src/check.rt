@@ -7,21 +7,16 @@ use model::Answer;
 use scan::Surveyed;
 
 // The answer of a request that wants a clean image.
+#[tactic(auto, unfolding(scan::specs::Surveys::state_in, bridge::specs::Refusals::answer_in))]
 pub fn state_answer(survey: Surveyed) -> Answer
     ensures { result ≡ answer_in (state_in survey) }
 {
     match survey {
-        Surveyed::Clean {
-            first: _,
-            used: _,
-            live: _,
-            free: _,
-            compactions: _,
-        } => Answer::Done,
-        Surveyed::TornSegment { top: _ } => Answer::Unfinished,
-        Surveyed::ErasePending { top: _, blank: _ } => Answer::Unfinished,
-        Surveyed::TornSlot { place: _ } => Answer::Unfinished,
-        Surveyed::OldSlot { place: _ } => Answer::Unfinished,
+        Surveyed::Clean { .. } => Answer::Done,
+        Surveyed::TornSegment { .. }
+        | Surveyed::ErasePending { .. }
+        | Surveyed::TornSlot { .. }
+        | Surveyed::OldSlot { .. } => Answer::Unfinished,
         Surveyed::Damaged => Answer::Damaged,
     }
 }

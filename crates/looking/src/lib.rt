@@ -8,41 +8,42 @@ ghost use Rattle.model.specs.Slot.{number_ok};
 ghost use Rattle.room.specs.Room.{Planned};
 ghost use Rattle.looking.specs.Look.{Looks};
 
-use find::Found;
-use model::{Answer, BlockNumber, SlotPlace};
+use find::FoundSlot;
+use model::{Answer, BlockNumber, Geometry};
 use room::Plan;
 use scan::Surveyed;
 
-// The place of a block's live slot and the length of its contents; or why there is none.
-#[derive(Clone, Copy)]
-pub enum Looked {
-    At(SlotPlace, usize),
-    Refused(Answer),
+// Looks for a block in a clean image: its live slot, or why there is none.
+fn look_clean(
+    image: &[u8],
+    geometry: Geometry,
+    plan: Plan,
+    block: BlockNumber,
+) -> Result<FoundSlot, Answer>
+    requires { Planned geometry.segments geometry.slots plan image.now × (number_ok block.0 ≡ true) }
+    ensures { Looks geometry.segments geometry.slots image.now block.0 result }
+{
+    let found = find::find(image, geometry, plan.first, plan.used, block);
+    found.ok_or(Answer::Absent)
 }
 
-// Looks for a block in a clean image.
-fn look_clean(image: &[u8], segments: usize, slots: usize, plan: Plan, block: BlockNumber) -> Looked
-    requires { Planned segments slots plan image.now × (number_ok block.0 ≡ true) }
+// Looks for a block: its live slot, or why there is none.
+pub fn look(
+    image: &[u8],
+    segments: usize,
+    slots: usize,
+    block: BlockNumber,
+) -> Result<FoundSlot, Answer>
     ensures { Looks segments slots image.now block.0 result }
 {
-    let found = find::find(image, segments, slots, plan.first, plan.used, block);
-    let Found::At(place, length) = found else {
-        return Looked::Refused(Answer::Absent);
-    };
-    Looked::At(place, length)
-}
-
-// Looks for a block.
-pub fn look(image: &[u8], segments: usize, slots: usize, block: BlockNumber) -> Looked
-    ensures { Looks segments slots image.now block.0 result }
-{
+    let geometry = Geometry { segments, slots };
     if !request::right_size(image.len(), segments, slots) {
-        return Looked::Refused(Answer::Size);
+        return Err(Answer::Size);
     }
     if !request::number_ok(block) {
-        return Looked::Refused(Answer::Number);
+        return Err(Answer::Number);
     }
-    let surveyed = scan::survey(image, segments, slots);
+    let surveyed = scan::survey(image, geometry);
     let Surveyed::Clean {
         first,
         used,
@@ -51,7 +52,7 @@ pub fn look(image: &[u8], segments: usize, slots: usize, block: BlockNumber) -> 
         compactions,
     } = surveyed
     else {
-        return Looked::Refused(check::state_answer(surveyed));
+        return Err(check::state_answer(surveyed));
     };
     let plan = Plan {
         first,
@@ -59,5 +60,5 @@ pub fn look(image: &[u8], segments: usize, slots: usize, block: BlockNumber) -> 
         slot: free,
         compactions,
     };
-    look_clean(image, segments, slots, plan, block)
+    look_clean(image, geometry, plan, block)
 }

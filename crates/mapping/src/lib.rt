@@ -12,27 +12,23 @@ ghost use Rattle.account_text.specs.Map.{all_rows, legend};
 ghost use Rattle.index.specs.Shows.{uncounted};
 
 use index::Shown;
-use model::MOST_SEGMENTS;
+use model::{Geometry, MOST_SEGMENTS};
 
 // The table has the segments as they are shown; their counts are not looked at. `next` is the number after the top's.
 pub fn map_rows(
     image: &[u8],
-    segments: usize,
-    slots: usize,
+    geometry: Geometry,
     table: [Shown; MOST_SEGMENTS],
     next: usize,
     text: &mut [u8],
     at: usize,
 ) -> usize
-    requires { Sized segments slots (length image.now) × (take segments table ≡ map uncounted (shown segments slots (segments_of segments slots image.now))) × (next ≡ next_number (shown segments slots (segments_of segments slots image.now))) × (at ≤ 100) }
-    ensures { Wrote (all_rows segments slots (segments_of segments slots image.now)) text.old at text.new result × (result ≤ at + 6000 * segments) }
+    requires { Sized geometry.segments geometry.slots (length image.now) × (take geometry.segments table ≡ map uncounted (shown geometry.segments geometry.slots (segments_of geometry.segments geometry.slots image.now))) × (next ≡ next_number (shown geometry.segments geometry.slots (segments_of geometry.segments geometry.slots image.now))) × (at ≤ 100) }
+    ensures { Wrote (all_rows geometry.segments geometry.slots (segments_of geometry.segments geometry.slots image.now)) text.old at text.new result × (result ≤ at + 6000 * geometry.segments) }
 {
     let mut end = at;
-    let mut i: usize = 0;
-    while i < segments {
-        let row = table[i];
-        end = row::map_row(image, segments, slots, i, next, row, text, end);
-        i += 1;
+    for i in 0..geometry.segments {
+        end = row::map_row(image, geometry, i, next, table[i], text, end);
     }
     end
 }

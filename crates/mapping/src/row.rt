@@ -10,6 +10,7 @@ ghost use Rattle.mapping.specs.Marks.{segment_by};
 
 use index::Shown;
 use judge::SegmentState;
+use model::Geometry;
 
 // ---- what stands before its slots
 
@@ -93,16 +94,15 @@ fn used_row(
 // The row of the segment at an index, by its state.
 pub fn map_row(
     image: &[u8],
-    segments: usize,
-    slots: usize,
+    geometry: Geometry,
     index: usize,
     next: usize,
     shown: Shown,
     text: &mut [u8],
     at: usize,
 ) -> usize
-    requires { Sized segments slots (length image.now) × (index < segments) × (at ≤ 1900000) }
-    ensures { Wrote (map_row next index (segment_by shown.state shown.number.0 (slots_at image.now (slots_offset slots index) slots))) text.old at text.new result × (result ≤ at + 6000) }
+    requires { Sized geometry.segments geometry.slots (length image.now) × (index < geometry.segments) × (at ≤ 1900000) }
+    ensures { Wrote (map_row next index (segment_by shown.state shown.number.0 (slots_at image.now (slots_offset geometry.slots index) geometry.slots))) text.old at text.new result × (result ≤ at + 6000) }
 {
     let state = shown.state;
     let number = shown.number;
@@ -110,7 +110,25 @@ pub fn map_row(
     match state {
         SegmentState::Blank => unused_row(text, at, index as u32, b" blank\n"),
         SegmentState::Invalid => unused_row(text, at, index as u32, b" torn\n"),
-        SegmentState::InUse => used_row(image, slots, index, active, b" used ", number.0, text, at),
-        SegmentState::Owing => used_row(image, slots, index, active, b" owing", number.0, text, at),
+        SegmentState::InUse => used_row(
+            image,
+            geometry.slots,
+            index,
+            active,
+            b" used ",
+            number.0,
+            text,
+            at,
+        ),
+        SegmentState::Owing => used_row(
+            image,
+            geometry.slots,
+            index,
+            active,
+            b" owing",
+            number.0,
+            text,
+            at,
+        ),
     }
 }

@@ -11,16 +11,14 @@ ghost use Rattle.marking.specs.Marks.{mark_kind};
 use model::SlotKind;
 
 // The character of a slot.
+#[tactic(auto, unfolding(crate::specs::Marks::mark_kind, account_text::specs::Map::mark))]
 fn mark_of(kind: SlotKind) -> u8
     ensures { result ≡ mark_kind kind }
 {
     match kind {
         SlotKind::Empty => b'.',
         SlotKind::Torn => b'~',
-        SlotKind::Live {
-            length: _,
-            block: _,
-        } => b'#',
+        SlotKind::Live { .. } => b'#',
         SlotKind::Dead => b'x',
         SlotKind::Cut => b'/',
         SlotKind::Wrong => b'!',
@@ -59,13 +57,11 @@ pub fn add_marks(image: &[u8], first: usize, slots: usize, text: &mut [u8], at: 
     ensures { Wrote (marks_from 0 (slots_at image.now first slots)) text.old at text.new result × (result ≤ at + slots * 22) }
 {
     let mut end = at;
-    let mut i: usize = 0;
-    while i < slots {
+    for i in 0..slots {
         let a = first + i * 256;
         let e = a + 256;
         let mark = mark_of(slot::slot_kind(&image[a..e]));
         end = add_mark(text, end, i, mark);
-        i += 1;
     }
     end
 }

@@ -22,7 +22,8 @@ use Rattle.index.specs.Tables.{Brief}
 use Rattle.index.proofs.Lives.{brief}
 use Rattle.judge.specs.Rows.{kinds_at, slots_at}
 use Rattle.rows.proofs.Laws.Rows.{kinds_next, page_part}
-use Rattle.meeting.specs.Sheet.{Sheet, sheet, page_at, met, met_kind, met_row}
+use Rattle.meeting.specs.declared.Sheet.{Sheet}
+use Rattle.meeting.specs.Sheet.{sheet, page_at, met, met_kind, met_row}
 
 -- ---- pages
 
@@ -137,14 +138,14 @@ unfolding kinds_at slots_at chunk met_row
 row_none m o t p = refl
 
 -- with one slot more before them: left of the slots are to come
-pub row_more : (m : Image) (h left slots : ℕ) (t u : Sheet) → 0 < left → left ≤ slots → t ≡ met_row m (h + left + 1) (kinds_at m ((h + left + 1) * 256) (slots - left)) u
-    → met_kind m (h + left) (kind_of (slot_of (take 256 (drop ((h + left) * 256) m)))) t ≡ met_row m (h + (left - 1) + 1) (kinds_at m ((h + (left - 1) + 1) * 256) (slots - (left - 1))) u
-row_more m h left slots t u p l f =
+pub row_more : (m : Image) (h left slots page : ℕ) (t u : Sheet) → page ≡ h + left → 0 < left → left ≤ slots → t ≡ met_row m (h + left + 1) (kinds_at m ((h + left + 1) * 256) (slots - left)) u
+    → met_kind m page (kind_of (slot_of (take 256 (drop (page * 256) m)))) t ≡ met_row m (h + (left - 1) + 1) (kinds_at m ((h + (left - 1) + 1) * 256) (slots - (left - 1))) u
+row_more m h left slots page t u e p l f =
     let a : h + (left - 1) + 1 ≡ h + left = omega arith in
     let b : slots - (left - 1) ≡ suc (slots - left) = omega arith in
     let d : (h + left) * 256 + 256 ≡ (h + left + 1) * 256 = omega arith in
     let s : suc (h + left) ≡ h + left + 1 = omega arith in
-    rw (a, b, kinds_next m ((h + left) * 256) (slots - left), d, f) (next (kind_of (slot_of (take 256 (drop ((h + left) * 256) m)))) (kinds_at m ((h + left + 1) * 256) (slots - left)) s)
+    rw (e, a, b, kinds_next m ((h + left) * 256) (slots - left), d, f) (next (kind_of (slot_of (take 256 (drop ((h + left) * 256) m)))) (kinds_at m ((h + left + 1) * 256) (slots - left)) s)
   where
     next : (k : SlotKind) (ks : List SlotKind) → suc (h + left) ≡ h + left + 1 → met_kind m (h + left) k (met_row m (h + left + 1) ks u) ≡ met_row m (h + left) (k ∷ ks) u
     next k ks s = unfold met_row in (ap (λ (z : ℕ). met_kind m (h + left) k (met_row m z ks u)) (sym s))

@@ -5,11 +5,7 @@ use Rattle.model.specs.Lists.{same}
 use Rattle.model.specs.Chip.{Image, Page}
 use Rattle.model.specs.declared.SlotKind.{SlotKind}
 use Rattle.model.specs.declared.SlotKind.TheVariants.{Empty, Torn, Live, Dead, Cut, Wrong}
-
-pub record Sheet : Type 0 where
-  pub places : List ℕ
-  pub lengths : List ℕ
-  pub differs : List Bool
+use Rattle.meeting.specs.declared.Sheet.{Sheet}
 
 abbrev pub sheet : List ℕ → List ℕ → List Bool → Sheet
 sheet p n d = record { places = p; lengths = n; differs = d }

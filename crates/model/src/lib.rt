@@ -9,6 +9,13 @@ pub const MOST_SEGMENTS: usize = 255;
 // of segments; `erase_limit` in specs/.
 pub const ERASE_LIMIT: usize = 100000;
 
+// How an image is divided: the count of its segments and that of the slots in each (document 01: N and B).
+#[derive(Clone, Copy)]
+pub struct Geometry {
+    pub segments: usize,
+    pub slots: usize,
+}
+
 // Names a record, 1 to 65,534 (document 01: block number).
 #[derive(Clone, Copy)]
 pub struct BlockNumber(pub u16);

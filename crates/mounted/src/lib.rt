@@ -8,24 +8,13 @@
 ghost use Rattle.std.specs.Prelude.{◌≡◌, length};
 ghost use Rattle.model.specs.Answers.{performed};
 ghost use Rattle.model.specs.Mounted.{MountedPut, MountedDelete};
-ghost use Rattle.mounted.specs.Puts.{none_found, Puts};
+ghost use Rattle.mounted.specs.Puts.{Puts};
 ghost use Rattle.mounted.specs.Marks.{EntryInside, MarkedEntry};
 
-use find::Found;
-use model::{Answer, BlockNumber, Performed};
-use mounted_plan::Decision;
-use places::Entry;
-
-// Whether a block has no slot.
-#[tactic(auto, unfolding(crate::specs::Puts::none_found))]
-fn is_absent(old: Found) -> bool
-    ensures { result ≡ none_found old }
-{
-    let Found::Nothing = old else {
-        return false;
-    };
-    true
-}
+use find::FoundSlot;
+use model::{Answer, BlockNumber, Geometry, Performed};
+use mounted_plan::PutPlan;
+use places::Stale;
 
 // Puts a block, where nothing has refused it yet: decided from the image's status bytes, then performed.
 fn put_block(
@@ -33,7 +22,7 @@ fn put_block(
     segments: usize,
     slots: usize,
     places: &mut [u32],
-    old: Found,
+    old: Option<FoundSlot>,
     block: BlockNumber,
     contents: &[u8],
     budget: u64,
@@ -41,11 +30,12 @@ fn put_block(
     requires { Puts segments slots old block.0 contents.now image.old places.old }
     ensures { MountedPut segments slots block.0 contents.now budget (performed result image.new) image.old places.old places.new }
 {
-    let decision = mounted_plan::decide(&image[..], segments, slots, is_absent(old));
+    let geometry = Geometry { segments, slots };
+    let decision = mounted_plan::decide(&image[..], geometry, old.is_none());
     match decision {
-        Decision::Refused(answer) => request::refused(answer),
-        Decision::Accepted { plan, total } => mounted_put::perform(
-            image, segments, slots, places, plan, total, old, block, contents, budget,
+        Err(answer) => request::refused(answer),
+        Ok(PutPlan { plan, total }) => mounted_put::perform(
+            image, geometry, places, plan, total, old, block, contents, budget,
         ),
     }
 }
@@ -68,23 +58,21 @@ pub fn put(
     let Answer::Done = refused else {
         return request::refused(refused);
     };
-    let entry = places::look_up(&image[..], slots, &places[..], block);
-    let Entry::Stale = entry else {
-        let old = mounted_write::old_slot(entry);
-        return put_block(image, segments, slots, places, old, block, contents, budget);
+    let Ok(old) = places::look_up(&image[..], slots, &places[..], block) else {
+        return request::refused(Answer::Damaged);
     };
-    request::refused(Answer::Damaged)
+    put_block(image, segments, slots, places, old, block, contents, budget)
 }
 
 // Marks the slot that an entry tells of.
-fn mark_entry(image: &mut [u8], entry: Entry, budget: u64) -> Performed
+fn mark_entry(image: &mut [u8], entry: Result<Option<FoundSlot>, Stale>, budget: u64) -> Performed
     requires { EntryInside entry (length image.old) }
     ensures { MarkedEntry entry budget result image.old image.new }
 {
     match entry {
-        Entry::At(place, _) => mend::mark_slot(image, place, budget),
-        Entry::Absent => request::refused(Answer::Absent),
-        Entry::Stale => request::refused(Answer::Damaged),
+        Ok(Some(old)) => mend::mark_slot(image, old.place, budget),
+        Ok(None) => request::refused(Answer::Absent),
+        Err(Stale) => request::refused(Answer::Damaged),
     }
 }
 

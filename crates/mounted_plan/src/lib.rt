@@ -10,15 +10,15 @@ ghost use Rattle.tally.specs.Seen.{header_in};
 ghost use Rattle.room.specs.Room.{Plannable};
 ghost use Rattle.mounted_plan.specs.Decided.{full_seen, plan_seen, header_decision, Decides};
 
-use model::{Answer, SegmentNumber};
+use model::{Answer, Geometry, SegmentNumber};
 use ring::Ring;
 use room::Plan;
 
-// A put decided before its first step: refused; or a plan, and the total that a new header carries on.
+// How a put that is not refused is performed: by a plan, and with the total that a new header carries on.
 #[derive(Clone, Copy)]
-pub enum Decision {
-    Refused(Answer),
-    Accepted { plan: Plan, total: usize },
+pub struct PutPlan {
+    pub plan: Plan,
+    pub total: usize,
 }
 
 // The number of the top.
@@ -30,47 +30,47 @@ fn top_number(first: SegmentNumber, used: usize) -> SegmentNumber
 }
 
 // Whether the header of the segment with a number has version 1: one byte tells, and the tally is not counted.
-fn is_former_in(image: &[u8], segments: usize, slots: usize, number: SegmentNumber) -> bool
-    requires { Sized segments slots (length image.now) }
-    ensures { result ≡ is_former (header_version (header_in segments slots number.0 image.now)) }
+fn is_former_in(image: &[u8], geometry: Geometry, number: SegmentNumber) -> bool
+    requires { Sized geometry.segments geometry.slots (length image.now) }
+    ensures { result ≡ is_former (header_version (header_in geometry.segments geometry.slots number.0 image.now)) }
 {
-    let at = header::header_place(segments, slots, number);
+    let at = header::header_place(geometry, number);
     let end = at + 256;
     header::is_former(&image[at..end])
 }
 
 // Whether a put finds as many slots live as may be; it matters only for a block that has none. With fewer segments in use
 // than may be, or with two empty slots in the top, that cannot be, and no status is looked at.
-fn is_full(image: &[u8], segments: usize, slots: usize, plan: Plan, absent: bool) -> bool
-    requires { Plannable segments slots plan (length image.now) × (plan.slot ≤ slots) }
-    ensures { result ≡ full_seen segments slots absent plan image.now }
+fn is_full(image: &[u8], geometry: Geometry, plan: Plan, absent: bool) -> bool
+    requires { Plannable geometry.segments geometry.slots plan (length image.now) × (plan.slot ≤ geometry.slots) }
+    ensures { result ≡ full_seen geometry.segments geometry.slots absent plan image.now }
 {
     if !absent {
         return false;
     }
-    if plan.used + 1 < segments {
+    if plan.used + 1 < geometry.segments {
         return false;
     }
-    if plan.slot + 1 < slots {
+    if plan.slot + 1 < geometry.slots {
         return false;
     }
-    plan::is_crowded(image, segments, slots, plan.first, plan.used)
+    plan::is_crowded(image, geometry, plan.first, plan.used)
 }
 
 // ---- the top is full
 
 // A plan with its compactions counted, where there will be some.
-fn count_compactions(image: &[u8], segments: usize, slots: usize, plan: Plan) -> Plan
-    requires { Plannable segments slots plan (length image.now) }
-    ensures { result ≡ plan_seen segments slots plan image.now }
+fn count_compactions(image: &[u8], geometry: Geometry, plan: Plan) -> Plan
+    requires { Plannable geometry.segments geometry.slots plan (length image.now) }
+    ensures { result ≡ plan_seen geometry.segments geometry.slots plan image.now }
 {
     let first = plan.first;
     let used = plan.used;
     let slot = plan.slot;
-    if used + 1 < segments {
+    if used + 1 < geometry.segments {
         return plan;
     }
-    let compactions = plan::compactions(image, segments, slots, first, used);
+    let compactions = plan::compactions(image, geometry, first, used);
     Plan {
         first,
         used,
@@ -80,49 +80,49 @@ fn count_compactions(image: &[u8], segments: usize, slots: usize, plan: Plan) ->
 }
 
 // A put that needs a new header: only now the top's tally is counted.
-fn decide_header(image: &[u8], segments: usize, slots: usize, plan: Plan) -> Decision
-    requires { (right_size segments slots image.now ≡ true) × Plannable segments slots plan (length image.now) }
-    ensures { result ≡ header_decision segments slots plan image.now }
+fn decide_header(image: &[u8], geometry: Geometry, plan: Plan) -> Result<PutPlan, Answer>
+    requires { (right_size geometry.segments geometry.slots image.now ≡ true) × Plannable geometry.segments geometry.slots plan (length image.now) }
+    ensures { result ≡ header_decision geometry.segments geometry.slots plan image.now }
 {
-    let counted = count_compactions(image, segments, slots, plan);
+    let counted = count_compactions(image, geometry, plan);
     let top = top_number(plan.first, plan.used);
-    let tally = tally::tally_in(image, segments, slots, top);
-    if put_answers::is_worn(segments, slots, counted, tally) {
-        return Decision::Refused(Answer::Worn);
+    let tally = tally::tally_in(image, geometry, top);
+    if put_answers::is_worn(geometry, counted, tally) {
+        return Err(Answer::Worn);
     }
-    Decision::Accepted {
+    Ok(PutPlan {
         plan: counted,
         total: tally.count,
-    }
+    })
 }
 
 // ---- a put
 
 // Decides a put of a block that has no slot yet (absent), or has one.
-pub fn decide(image: &[u8], segments: usize, slots: usize, absent: bool) -> Decision
-    requires { right_size segments slots image.now ≡ true }
-    ensures { Decides segments slots absent image.now result }
+pub fn decide(image: &[u8], geometry: Geometry, absent: bool) -> Result<PutPlan, Answer>
+    requires { right_size geometry.segments geometry.slots image.now ≡ true }
+    ensures { Decides geometry.segments geometry.slots absent image.now result }
 {
-    let ring = ring::see_ring(image, segments, slots);
-    let Ring::InUse { first, used } = ring else {
-        return Decision::Refused(Answer::Damaged);
+    let ring = ring::see_ring(image, geometry);
+    let Some(Ring { first, used }) = ring else {
+        return Err(Answer::Damaged);
     };
     let top = top_number(first, used);
-    if is_former_in(image, segments, slots, top) {
-        return Decision::Refused(Answer::FormerVersion);
+    if is_former_in(image, geometry, top) {
+        return Err(Answer::FormerVersion);
     }
-    let slot = plan::first_free(image, segments, slots, top);
+    let slot = plan::first_free(image, geometry, top);
     let plan = Plan {
         first,
         used,
         slot,
         compactions: 0,
     };
-    if is_full(image, segments, slots, plan, absent) {
-        return Decision::Refused(Answer::Full);
+    if is_full(image, geometry, plan, absent) {
+        return Err(Answer::Full);
     }
-    if slot < slots {
-        return Decision::Accepted { plan, total: 0 };
+    if slot < geometry.slots {
+        return Ok(PutPlan { plan, total: 0 });
     }
-    decide_header(image, segments, slots, plan)
+    decide_header(image, geometry, plan)
 }

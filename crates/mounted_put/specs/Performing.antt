@@ -1,10 +1,10 @@
 -- A mounted put performed on any image with any table, with what it is on an image and a table in step.
-use Rattle.std.specs.Prelude.{ℕ, ◌≤◌, ◌≡◌, ◌⊎◌, List, get_or, drop}
+use Rattle.std.specs.Prelude.{ℕ, ◌≤◌, ◌≡◌, ◌⊎◌, List, get_or, drop, Option}
 use Rattle.model.specs.Chip.{Image}
 use Rattle.model.specs.Answers.{code_of, put, performed, outcome_of}
 use Rattle.model.specs.Mounted.{Places, least_places}
 use Rattle.model.specs.declared.Performed.{Performed}
-use Rattle.find.specs.declared.Found.{Found}
+use Rattle.find.specs.declared.FoundSlot.{FoundSlot}
 use Rattle.bridge.specs.Mounting.{Kept}
 use Rattle.room.specs.declared.Plan.{Plan}
 use Rattle.put.specs.Writing.{Accepted}
@@ -17,4 +17,4 @@ pub record Performs (N B : ℕ) (p : Plan) (total b : ℕ) (c : List ℕ) (budge
   pub past : drop least_places w ≡ drop least_places t
   pub few : q.steps ≤ budget
   -- in step, where nothing refuses it: the put of the definition, and in step again unless it answers 9
-  pub exact : Kept N B s t → (f : Found) → Accepted N B p total f b c s → (performed q u ≡ outcome_of N B s budget (put b c)) × (code_of q.answer ≡ 0 → Kept N B u w)
+  pub exact : Kept N B s t → (f : Option FoundSlot) → Accepted N B p total f b c s → (performed q u ≡ outcome_of N B s budget (put b c)) × (code_of q.answer ≡ 0 → Kept N B u w)

@@ -6,9 +6,10 @@ ghost use Rattle.model.specs.Answers.{code_of, located};
 ghost use Rattle.model.specs.Mounted.{mounted_refusal, MountedRead};
 
 use model::{Answer, BlockNumber, Located};
-use places::{Entry, LEAST_PLACES};
+use places::{LEAST_PLACES, Stale};
 
 // What refuses a mounted call whatever the table says of the image: 1, 10, 2, 3, and 5 for a table that is not usable.
+// Kept: an `Answer` and no Result, since `mounted_refusal` counts none as 0, which is the code of `Done`.
 pub fn refusal(
     image: &[u8],
     segments: usize,
@@ -51,15 +52,14 @@ pub fn read(
     let Answer::Done = refused else {
         return nowhere(refused);
     };
-    let entry = places::look_up(image, slots, places, block);
-    match entry {
-        Entry::At(place, length) => Located {
+    match places::look_up(image, slots, places, block) {
+        Ok(Some(slot)) => Located {
             answer: Answer::Done,
-            offset: place.0 + 8,
-            length,
+            offset: slot.place.0 + 8,
+            length: slot.length,
         },
-        Entry::Absent => nowhere(Answer::Absent),
-        Entry::Stale => nowhere(Answer::Damaged),
+        Ok(None) => nowhere(Answer::Absent),
+        Err(Stale) => nowhere(Answer::Damaged),
     }
 }
 

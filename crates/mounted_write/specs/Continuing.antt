@@ -1,17 +1,14 @@
 -- A mounted put once room was made: its parts on any image with any table.
-use Rattle.std.specs.Prelude.{ℕ, ◌+◌, ◌-◌, ◌*◌, ◌≤◌, ◌≡◌, ◌⊎◌, List, length, get_or}
+use Rattle.std.specs.Prelude.{ℕ, ◌+◌, ◌-◌, ◌*◌, ◌≤◌, ◌≡◌, ◌⊎◌, List, length, get_or, Option, Ok}
 use Rattle.model.specs.Chip.{Image, most_segments}
 use Rattle.model.specs.Steps.{slot_at}
 use Rattle.model.specs.Answers.{code_of}
 use Rattle.model.specs.Mounted.{Places, unusable}
 use Rattle.model.specs.declared.Performed.{Performed}
 use Rattle.flash.specs.Pages.{Sized}
-use Rattle.find.specs.declared.Found.{Found}
-use Rattle.find.specs.declared.Found.TheVariants.{At, Nothing}
+use Rattle.find.specs.declared.FoundSlot.{FoundSlot}
 use Rattle.request.specs.Request.{Finished}
-use Rattle.places.specs.declared.Entry.{Entry}
-use Rattle.places.specs.declared.Entry.TheVariants as entries
-use Rattle.places.specs.Places.{entry_seen, noted}
+use Rattle.places.specs.Places.{stale, entry_seen, noted}
 use Rattle.room.specs.declared.Room.{Room}
 use Rattle.put.specs.Writing.{Wrote}
 
@@ -23,29 +20,18 @@ pub record RoomMade (N B : ℕ) (r : Room) (c : List ℕ) (budget bytes : ℕ) :
   pub short : length c ≤ 248
   pub left : r.left ≤ budget
 
--- an old slot, or that there is none, as an entry says it
-unfoldable pub entry_for : Found → Entry
-entry_for (At q n) = entries.At q n
-entry_for Nothing = entries.Absent
-
--- and back; what cannot be tells of none
-unfoldable pub found_for : Entry → Found
-found_for (entries.At q n) = At q n
-found_for entries.Absent = Nothing
-found_for entries.Stale = Nothing
-
 -- the slot was written, the old one marked where the entry says it is, and the new place noted
-pub record Written (N B : ℕ) (r : Room) (f : Found) (b : ℕ) (c : List ℕ) (budget : ℕ) (q : Performed) (s u : Image) (t w : Places) : Type 0 where
-  pub seen : entry_seen B s (get_or t b 0) ≡ entry_for f
+pub record Written (N B : ℕ) (r : Room) (f : Option FoundSlot) (b : ℕ) (c : List ℕ) (budget : ℕ) (q : Performed) (s u : Image) (t w : Places) : Type 0 where
+  pub seen : entry_seen B s (get_or t b 0) ≡ Ok f
   pub wrote : Wrote N B r f b c budget q s u
   pub table : w ≡ noted t b (slot_at N B (r.first.0 + r.used - 1) r.slot * 256) (code_of q.answer)
 
 -- nothing was written: there is no free slot, or the entry cannot be; both tell that the table is not that of the image
 pub record Stopped (B : ℕ) (r : Room) (b budget : ℕ) (q : Performed) (s u : Image) (t w : Places) : Type 0 where
-  pub why : (B ≤ r.slot) ⊎ (entry_seen B s (get_or t b 0) ≡ entries.Stale)
+  pub why : (B ≤ r.slot) ⊎ (entry_seen B s (get_or t b 0) ≡ stale)
   pub image : u ≡ s
   pub finished : Finished budget r.left 0 1 q
   pub table : w ≡ unusable t
 
 abbrev pub Continued : (N B : ℕ) (r : Room) (b : ℕ) (c : List ℕ) (budget : ℕ) (q : Performed) (s u : Image) (t w : Places) → Type 0
-Continued N B r b c budget q s u t w = ((f : Found) × Written N B r f b c budget q s u t w) ⊎ Stopped B r b budget q s u t w
+Continued N B r b c budget q s u t w = ((f : Option FoundSlot) × Written N B r f b c budget q s u t w) ⊎ Stopped B r b budget q s u t w

@@ -7,7 +7,7 @@ ghost use Rattle.model.specs.Answers.{performed};
 ghost use Rattle.moves.specs.Moves.{move_outcome};
 ghost use Rattle.moving.specs.Moving.{Carriable};
 
-use model::{Answer, Performed, SegmentNumber};
+use model::{Answer, Geometry, Performed, SegmentNumber};
 use places::LEAST_PLACES;
 use scan::Surveyed;
 
@@ -15,28 +15,19 @@ use scan::Surveyed;
 // the source is met once, and each block number once, whatever their order.
 fn carry(
     source: &[u8],
-    segments: usize,
-    slots: usize,
+    geometry: Geometry,
     first: SegmentNumber,
     used: usize,
     target: &mut [u8],
-    target_segments: usize,
-    target_slots: usize,
+    target_geometry: Geometry,
     budget: u64,
 ) -> Performed
-    requires { Carriable segments slots source.now first.0 used target_segments target_slots target.old }
-    ensures { performed result target.new ≡ move_outcome segments slots source.now target_segments target_slots target.old budget }
+    requires { Carriable geometry.segments geometry.slots source.now first.0 used target_geometry.segments target_geometry.slots target.old }
+    ensures { performed result target.new ≡ move_outcome geometry.segments geometry.slots source.now target_geometry.segments target_geometry.slots target.old budget }
 {
     let mut places = [0u32; LEAST_PLACES];
-    places::fill(source, segments, slots, first, used, &mut places);
-    fresh::build(
-        source,
-        &places,
-        target,
-        target_segments,
-        target_slots,
-        budget,
-    )
+    places::fill(source, geometry, first, used, &mut places);
+    fresh::build(source, &places, target, target_geometry, budget)
 }
 
 // Moves the blocks of a clean image to another chip. All that can be refused is refused before the first erase; an image of
@@ -52,19 +43,23 @@ pub fn move_to(
 ) -> Performed
     ensures { performed result target.new ≡ move_outcome segments slots source.now target_segments target_slots target.old budget }
 {
+    let geometry = Geometry { segments, slots };
+    let target_geometry = Geometry {
+        segments: target_segments,
+        slots: target_slots,
+    };
     if !request::right_size(source.len(), segments, slots) {
         return request::refused(Answer::Size);
     }
     if !request::right_size(target.len(), target_segments, target_slots) {
         return request::refused(Answer::Size);
     }
-    let surveyed = scan::survey(source, segments, slots);
+    let surveyed = scan::survey(source, geometry);
     let Surveyed::Clean {
         first,
         used,
         live,
-        free: _,
-        compactions: _,
+        ..
     } = surveyed
     else {
         return request::refused(looking::check::state_answer(surveyed));
@@ -74,13 +69,11 @@ pub fn move_to(
     }
     carry(
         source,
-        segments,
-        slots,
+        geometry,
         first,
         used,
         target,
-        target_segments,
-        target_slots,
+        target_geometry,
         budget,
     )
 }

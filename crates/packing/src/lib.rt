@@ -45,14 +45,12 @@ pub fn packed_mounted(p: Performed) -> u64
 const COUNTS: u64 = 72057594037927936;
 
 // 1 if all are 255, otherwise 0, and 256 times the groups looked at.
+#[tactic(auto, unfolding(crate::specs::Counts::counts))]
 pub fn packed_blank(t: BlankTest) -> u64
     ensures { result ≡ cond t.blank 1 0 + 256 * (t.groups % counts) }
 {
     let groups = t.groups as u64 % COUNTS;
-    if t.blank {
-        return 1 + 256 * groups;
-    }
-    256 * groups
+    u64::from(t.blank) + 256 * groups
 }
 
 // The answer, and 256 times the length of a text.

@@ -18,7 +18,7 @@ use Rattle.partitions.specs.Layout.{Item, items_from, items_of, distinct, bytes_
 use Rattle.partitions.specs.Items.{identifier_at, data_at, data_in, is_written}
 use Rattle.partitions.specs.Writes.{Entry, write_item, write_items, carried, item_steps, entry_for}
 use Rattle.partitions.proofs.Laws.{right_layout, used_some}
-use Rattle.partition_layout.proofs.Walk.{items_at, item_at, Whole, items_end, items_next, whole_next}
+use Rattle.partition_layout.proofs.Walk.{Whole, First, item_in, items_end, items_next, whole_next}
 use Rattle.partition_items.specs.Carrying.{carry_steps, CarryOne, Carry}
 use Rattle.partition_items.proofs.Laws.{Inside, inside_within, inside_item, Same, ran_kept, piece_same, places_disjoint}
 
@@ -124,76 +124,76 @@ carried_same S p e s t l same o (i ∷ n ∷ r) h =
 
 -- ---- the loop over the table
 
--- its invariant: whatever finishes the rest of the items finishes the whole
-pub record Carrying (S from to : ℕ) (layout : List ℕ) (e : Entry) (budget : ℕ) (start s : Image) (left at i : ℕ) : Type 0 where
-  pub finish : (r : ℕ) (u : Image) → RanIn (write_items S to (carried S s from e (items_at layout i at))) S left r s u → RanIn (write_items S to (carried S start from e (items_of layout))) S budget r start u
-  pub pairs : Whole layout i
-  pub agree : Agree e.item (items_at layout i at)
-  pub room : at + bytes_used (items_at layout i at) ≤ S + 1
+-- its invariant, where so many bytes of the table are left: whatever finishes the rest of the items finishes the whole
+pub record Carrying (S from to : ℕ) (layout : List ℕ) (e : Entry) (budget : ℕ) (start s : Image) (left at : ℕ) (xs : List ℕ) : Type 0 where
+  pub finish : (r : ℕ) (u : Image) → RanIn (write_items S to (carried S s from e (items_from at xs))) S left r s u → RanIn (write_items S to (carried S start from e (items_of layout))) S budget r start u
+  pub pairs : Whole xs
+  pub agree : Agree e.item (items_from at xs)
+  pub room : at + bytes_used (items_from at xs) ≤ S + 1
   pub size : length s ≡ length start
 
 module _ (S from to item budget : ℕ) (layout contents : List ℕ) (start : Image) (z : Carry S from to layout item contents (length start)) where
   abbrev entry : Entry
   entry = entry_for layout item contents
 
-  pub carrying_start : Carrying S from to layout entry budget start start budget 1 0
+  pub carrying_start : {xs : List ℕ} → xs ≡ layout → Carrying S from to layout entry budget start start budget 1 xs
   unfolding items_of
-  carrying_start =
-      let even = (right_layout S layout z.right).even in
-      record { finish = λ r u d. d; pairs = (omega arith, omega arith); agree = table_agrees S item layout z.right; room = omega (arith, (right_layout S layout z.right).fit); size = refl }
+  carrying_start q =
+      let right = right_layout S layout z.right in
+      rw q (record { finish = λ r u d. d; pairs = right.even; agree = table_agrees S item layout z.right; room = omega (arith, right.fit); size = refl })
 
-  module _ (s : Image) (left at i : ℕ) (c : Carrying S from to layout entry budget start s left at i) where
-    pub carrying_end : length layout ≤ i → RanIn (write_items S to (carried S start from entry (items_of layout))) S budget left start s
+  module _ (s : Image) (left at : ℕ) (xs : List ℕ) (c : Carrying S from to layout entry budget start s left at xs) where
+    pub carrying_end : length xs < 2 → RanIn (write_items S to (carried S start from entry (items_of layout))) S budget left start s
     unfolding carried write_items
-    carrying_end h = c.finish left s (rw (items_end layout i at c.pairs h) (none_in _ left s))
+    carrying_end h = c.finish left s (rw (items_end xs at h c.pairs) (none_in _ left s))
 
-    module _ (n : ℕ) (h : i < length layout) (f : n ≡ get_or layout (i + 1) 0) where
+    module _ {pair ys : List ℕ} (p : First xs pair ys) where
       abbrev first : Item
-      first = record { identifier = get_or layout i 0; size = n; at = at }
+      first = item_in pair at
 
       abbrev later : List Item
-      later = items_at layout (i + 2) (at + (1 + n))
+      later = items_from (at + (1 + first.size)) ys
 
-      items : items_at layout i at ≡ first ∷ later
-      items = rw f (items_next layout i at c.pairs h ∙ ap (λ (k : ℕ). item_at layout i at ∷ items_at layout (i + 2) k) (omega arith))
+      items : items_from at xs ≡ first ∷ later
+      items = items_next p at ∙ ap (λ (k : ℕ). first ∷ items_from k ys) (omega arith)
 
       agree : Agree entry.item (first ∷ later)
       agree = rw items at c.agree
 
-      room : at + (1 + n + bytes_used later) ≤ S + 1
+      room : at + (1 + first.size + bytes_used later) ≤ S + 1
       unfolding bytes_used
       room = rw items at c.room
 
-      own : get_or layout i 0 ≡ item → length contents ≡ n
+      own : first.identifier ≡ item → length contents ≡ first.size
       own e = z.whole ∙ ap (λ (x : Item). x.size) (sym (agree.0 (e ∙ sym (item_named item (items_of layout)))))
 
-      pub carrying_one : CarryOne (from * S + at) (to * S + at) (get_or layout i 0) n item contents (length s)
+      pub carrying_one : CarryOne (from * S + at) (to * S + at) first.identifier first.size item contents (length s)
       carrying_one =
           let some = used_some later in
           record {
             reads = omega (arith, z.reads, c.size, room);
             writes = omega (arith, z.writes, c.size, room);
-            apart = places_disjoint S from to at (1 + n) z.apart (omega (arith, room));
+            apart = places_disjoint S from to at (1 + first.size) z.apart (omega (arith, room));
             own = own;
           }
 
       -- the item's steps come first, and leave the partition that the others are carried from
-      pub carrying_next : (r : ℕ) (t : Image) → Programmed (carry_steps s (from * S + at) (to * S + at) (get_or layout i 0) n item contents) left r s t
-          → Carrying S from to layout entry budget start t r (at + (1 + n)) (i + 2)
+      pub carrying_next : (r : ℕ) (t : Image) → Programmed (carry_steps s (from * S + at) (to * S + at) first.identifier first.size item contents) left r s t
+          → Carrying S from to layout entry budget start t r (at + (1 + first.size)) ys
       carrying_next r t d =
           let some = used_some later in
-          let steps : List Step = carry_steps s (from * S + at) (to * S + at) (get_or layout i 0) n item contents in
-          let inside : Inside S to steps = carry_inside s S to (from * S + at) (to * S + at) (get_or layout i 0) n item contents (omega arith) (omega (arith, room)) own in
+          let steps : List Step = carry_steps s (from * S + at) (to * S + at) first.identifier first.size item contents in
+          let inside : Inside S to steps = carry_inside s S to (from * S + at) (to * S + at) first.identifier first.size item contents (omega arith) (omega (arith, room)) own in
           let done : RanIn steps S left r s t = programmed_in S (to * S + S) (inside_within S to steps inside) d in
           let l : length t ≡ length s = length_in done in
           let same : carried S t from entry later ≡ carried S s from entry later =
-          carried_same S from entry t s l (ran_kept S to from z.apart inside done) (at + (1 + n)) (drop (i + 2) layout) (omega (arith, room)) in
-          let first_steps : write_items S to (carried S s from entry (items_at layout i at)) ≡ steps ++ write_items S to (carried S s from entry later) =
+          carried_same S from entry t s l (ran_kept S to from z.apart inside done) (at + (1 + first.size)) ys (omega (arith, room)) in
+          let first_steps : write_items S to (carried S s from entry (items_from at xs)) ≡ steps ++ write_items S to (carried S s from entry later) =
           rw items (carried_next S s from to entry first later agree.0
-          ∙ ap (λ (j : ℕ). carry_steps s (from * S + at) (to * S + at) (get_or layout i 0) n j contents ++ write_items S to (carried S s from entry later)) (item_named item (items_of layout))) in
+          ∙ ap (λ (j : ℕ). carry_steps s (from * S + at) (to * S + at) first.identifier first.size j contents ++ write_items S to (carried S s from entry later)) (item_named item (items_of layout))) in
           record {
             finish = λ m u w. c.finish m u (rw first_steps (◌then◌ done (rw same at w)));
-            pairs = whole_next layout i at c.pairs h;
+            pairs = whole_next p c.pairs;
             agree = agree.1;
             room = omega (arith, room);
             size = l ∙ c.size;

@@ -13,7 +13,6 @@ use lib.Bits.{bit_and}
 use lib.Seq.{get_or-take, get_or-drop, get_or-set_other, get_or-append-add, length-take-le, ext_get_or}
 use borrow.Author.Tests.{leb-true}
 use Rattle.model.specs.Chip.{Image, Step, program, erase, clear, erased}
-use Rattle.model.specs.Header.{is_blank}
 use Rattle.model.specs.Steps.{programs}
 use Rattle.flash.specs.Units.{with_unit, step_in, run_in, RanIn}
 use Rattle.model.proofs.Laws.Programs.{Outside, spares_programs, spared_run}
@@ -23,10 +22,6 @@ use Rattle.partitions.specs.Writes.{item_steps}
 use Rattle.partition_items.specs.Carrying.{Disjoint}
 
 -- ---- one item's bytes
-
--- the part that is lent for the blank test
-pub part_blank : (s : Image) (at size : ℕ) {t : Bool} → t ≡ is_blank (take (at + 1 + size - at) (drop at s)) → t ≡ is_blank (take (1 + size) (drop at s))
-part_blank s at size e = let f : at + 1 + size - at ≡ 1 + size = omega arith in rw f at e
 
 -- a byte that is still to be copied is as it was: those programmed so far are others
 copied_next : (from to size i : ℕ) (s t : Image) → from + size ≤ length s → Disjoint from to size → i < size → ProgrammedTo to i (take size (drop from s)) s t

@@ -38,26 +38,17 @@ fn copy_data(image: &mut [u8], from: usize, to: usize, size: usize, budget: u64)
     requires { (from + size ≤ length image.old) × (to + size ≤ length image.old) × Disjoint from to size }
     ensures { Programmed (programs to (take size (drop from image.old))) budget result image.old image.new }
 {
-    let covered = flash::least(budget as usize, size);
+    let covered = (budget as usize).min(size);
     let mut left = budget;
-    let mut i = 0;
-    while i < covered {
+    for i in 0..covered {
         let o = to + i;
         image[o] = image[o] & image[from + i];
         left -= 1;
-        i += 1;
     }
     left
 }
 
 // ---- the items of a partition
-
-// A byte of the table as a length.
-fn wide(byte: u8) -> usize
-    ensures { (result ≡ byte) × (result ≤ 255) }
-{
-    byte as usize
-}
 
 // One item of the table, with its identifier and the length of its data, on the way from an offset to another: the new data if
 // it is the item that is written, otherwise its old data if it has any.
@@ -102,21 +93,19 @@ pub fn carry_items(
     let target = to * size;
     let mut left = budget;
     let mut at = 1;
-    let mut i = 0;
-    while i < layout.len() {
-        let length = wide(layout[i + 1]);
+    for pair in layout.chunks_exact(2) {
+        let length = usize::from(pair[1]);
         left = carry_item(
             image,
             source + at,
             target + at,
-            layout[i],
+            pair[0],
             length,
             item,
             contents,
             left,
         );
         at += 1 + length;
-        i += 2;
     }
     left
 }

@@ -1,45 +1,50 @@
--- A layout table by the places of its pairs: the next item, and what a walk over the pairs finds right or refuses.
+-- A layout table by its pairs: the next item, and what a walk over the pairs finds right or refuses.
 use Prim.Native.Nat.{ℕ, zero, suc, ◌+◌, ◌-◌, ◌%◌, ◌≤◌, ◌<◌}
 use mathlib.Core.Path.{◌≡◌, refl, sym, ap, ◌∙◌}
 use mathlib.Core.Bool.{Bool, true, false, ◌&&◌, not, and_assoc, and-true, and-false}
-use mathlib.Core.List.{List, [], ◌∷◌}
+use mathlib.Core.List.{List, [], ◌∷◌, ◌++◌}
 use native.Mathlib.Omega.{arith}
-use lib.ListN.{length, get_or, drop, set, replicate, length-set}
-use lib.Seq.{drop-cons, drop-length, get_or-set_same, get_or-set_other}
+use lib.ListN.{length, get_or, set, replicate, length-set, length-append}
+use lib.Seq.{get_or-set_same, get_or-set_other}
 use lib.Dec.{leb, eqb}
 use borrow.Author.Tests.{eqb-true, eqb-false, leb-true, leb-false, le-leb, lt-leb, eq-eqb, ne_eqb}
 use Rattle.model.specs.Lists.{all}
 use Rattle.partitions.proofs.Laws.{used_some}
 use Rattle.partitions.specs.Layout.{Item, items_from, items_of, distinct, bytes_used, layout_ok, has_item, item_of}
 
--- ---- from a place on
+-- ---- the pairs that are left
 
--- the items from a place on, the first of them at an offset
-abbrev pub items_at : List ℕ → ℕ → ℕ → List Item
-items_at ns at o = items_from o (drop at ns)
+-- whole pairs are left, or none
+abbrev pub Whole : List ℕ → Type 0
+Whole xs = length xs % 2 ≡ 0
 
-abbrev pub item_at : List ℕ → ℕ → ℕ → Item
-item_at ns at o = record { identifier = get_or ns at 0; size = get_or ns (at + 1) 0; at = o }
+-- the first pair of what is left, and what is left behind it
+pub record First (xs pair ys : List ℕ) : Type 0 where
+  pub parts : xs ≡ pair ++ ys
+  pub two : length pair ≡ 2
 
--- whole pairs are left from a place on, or none
-abbrev pub Whole : List ℕ → ℕ → Type 0
-Whole ns at = (at ≤ length ns) × ((length ns - at) % 2 ≡ 0)
+-- the item that a pair tells, at an offset
+abbrev pub item_in : List ℕ → ℕ → Item
+item_in pair o = record { identifier = get_or pair 0 0; size = get_or pair 1 0; at = o }
 
-module _ (ns : List ℕ) (at o : ℕ) (w : Whole ns at) where
-  pub items_end : length ns ≤ at → items_at ns at o ≡ []
-  unfolding items_from
-  items_end h = let e : at ≡ length ns = omega arith in rw (e, drop-length ns)
+pub items_end : (xs : List ℕ) (o : ℕ) → length xs < 2 → Whole xs → items_from o xs ≡ []
+unfolding items_from
+items_end [] o h w = refl
+items_end (i ∷ []) o h w = refl
+items_end (i ∷ n ∷ xs) o h w = absurd (omega arith)
 
-  module _ (h : at < length ns) where
-    pub whole_next : Whole ns (at + 2)
-    whole_next = (omega arith, omega arith)
+module _ {xs pair ys : List ℕ} (p : First xs pair ys) where
+  pub whole_next : Whole xs → Whole ys
+  whole_next w = let e = ap length p.parts ∙ length-append pair ys in omega (arith, p.two)
 
-    pub items_next : items_at ns at o ≡ item_at ns at o ∷ items_at ns (at + 2) (o + 1 + get_or ns (at + 1) 0)
-    unfolding items_from
-    items_next =
-        let one : at + 1 ≡ suc at = omega arith in
-        let two : at + 2 ≡ suc (suc at) = omega arith in
-        rw (one, two, drop-cons ns at 0 h, drop-cons ns (suc at) 0 (omega (arith, w.1)))
+  pub items_next : (o : ℕ) → items_from o xs ≡ item_in pair o ∷ items_from (o + 1 + get_or pair 1 0) ys
+  items_next o = ap (items_from o) p.parts ∙ go pair p.two
+    where
+      go : (two : List ℕ) → length two ≡ 2 → items_from o (two ++ ys) ≡ item_in two o ∷ items_from (o + 1 + get_or two 1 0) ys
+      go [] e = absurd (omega arith)
+      go (i ∷ []) e = absurd (omega arith)
+      go (i ∷ n ∷ []) e = unfold items_from in refl
+      go (i ∷ n ∷ m ∷ r) e = absurd (omega arith)
 
 -- ---- identifiers met
 
@@ -121,11 +126,11 @@ module _ (met : List Bool) (left : ℕ) (x : Item) (xs : List Item) where
 -- ---- the walk
 
 -- the test of the whole is that of what is left
-pub record Walked (S : ℕ) (ns : List ℕ) (left : ℕ) (met : List Bool) (at : ℕ) : Type 0 where
-  pub whole : Whole ns at
+pub record Walked (S : ℕ) (ns : List ℕ) (left : ℕ) (met : List Bool) (xs : List ℕ) : Type 0 where
+  pub whole : Whole xs
   pub table : length met ≡ 256
   pub offset : ℕ
-  pub rest : layout_ok S ns ≡ rest_ok met left (items_at ns at offset)
+  pub rest : layout_ok S ns ≡ rest_ok met left (items_from offset xs)
 
 module _ (S : ℕ) (ns : List ℕ) where
   pub left_over : (length ns % 2 ≡ 0 → ⊥) → false ≡ layout_ok S ns
@@ -139,23 +144,23 @@ module _ (S : ℕ) (ns : List ℕ) where
   pub no_room : S ≡ 0 → false ≡ layout_ok S ns
   no_room e = too_many (omega (arith, used_some (items_of ns)))
 
-  pub walk_start : length ns % 2 ≡ 0 → (S ≡ 0 → ⊥) → Walked S ns (S - 1) (replicate 256 false) 0
+  pub walk_start : {xs : List ℕ} → xs ≡ ns → length ns % 2 ≡ 0 → (S ≡ 0 → ⊥) → Walked S ns (S - 1) (replicate 256 false) xs
   unfolding items_of
-  walk_start e h = record { whole = (omega arith, omega arith); table = refl; offset = 1; rest = rest_start S ns 256 e h }
+  walk_start q e h = rw q (record { whole = e; table = refl; offset = 1; rest = rest_start S ns 256 e h })
 
-module _ {S : ℕ} {ns : List ℕ} {left : ℕ} {met : List Bool} {at : ℕ} (v : Walked S ns left met at) where
-  pub walk_end : length ns ≤ at → true ≡ layout_ok S ns
-  walk_end h = sym (v.rest ∙ rw (items_end ns at v.offset v.whole h) (rest_end met left))
+module _ {S : ℕ} {ns : List ℕ} {left : ℕ} {met : List Bool} {xs : List ℕ} (v : Walked S ns left met xs) where
+  pub walk_end : length xs < 2 → true ≡ layout_ok S ns
+  walk_end h = sym (v.rest ∙ rw (items_end xs v.offset h v.whole) (rest_end met left))
 
-  module _ (h : at < length ns) where
+  module _ {pair ys : List ℕ} (p : First xs pair ys) where
     abbrev next : Item
-    next = item_at ns at v.offset
+    next = item_in pair v.offset
 
     abbrev others : List Item
-    others = items_at ns (at + 2) (v.offset + 1 + next.size)
+    others = items_from (v.offset + 1 + next.size) ys
 
     here : layout_ok S ns ≡ rest_ok met left (next ∷ others)
-    here = v.rest ∙ ap (rest_ok met left) (items_next ns at v.offset v.whole h)
+    here = v.rest ∙ ap (rest_ok met left) (items_next p v.offset)
 
     pub no_identifier : next.identifier ≡ 255 → false ≡ layout_ok S ns
     no_identifier e = sym (here ∙ rest_no_identifier met left next others e)
@@ -170,9 +175,9 @@ module _ {S : ℕ} {ns : List ℕ} {left : ℕ} {met : List Bool} {at : ℕ} (v 
     too_long e = sym (here ∙ rest_long met left next others e)
 
     pub walk_next : (next.identifier ≡ 255 → ⊥) → get_or met next.identifier false ≡ false → (next.size ≡ 0 → ⊥) → 1 + next.size ≤ left → next.identifier < 256
-        → Walked S ns (left - (1 + next.size)) (set met next.identifier true) (at + 2)
+        → Walked S ns (left - (1 + next.size)) (set met next.identifier true) ys
     walk_next i m n f b = record {
-      whole = whole_next ns at v.offset v.whole h;
+      whole = whole_next p v.whole;
       table = length-set met next.identifier true ∙ v.table;
       offset = v.offset + 1 + next.size;
       rest = here ∙ rest_next met left next others i m n f (omega (arith, v.table));
@@ -181,30 +186,30 @@ module _ {S : ℕ} {ns : List ℕ} {left : ℕ} {met : List Bool} {at : ℕ} (v 
 -- ---- the search
 
 -- the item looked for is among those left, and the offset and their bytes are those of the whole
-pub record Sought (ns : List ℕ) (i o at : ℕ) : Type 0 where
-  pub whole : Whole ns at
-  pub has : has_item i (items_of ns) ≡ has_item i (items_at ns at o)
-  pub item : item_of i (items_of ns) ≡ item_of i (items_at ns at o)
-  pub bytes : o + bytes_used (items_at ns at o) ≡ 1 + bytes_used (items_of ns)
+pub record Sought (ns : List ℕ) (i o : ℕ) (xs : List ℕ) : Type 0 where
+  pub whole : Whole xs
+  pub has : has_item i (items_of ns) ≡ has_item i (items_from o xs)
+  pub item : item_of i (items_of ns) ≡ item_of i (items_from o xs)
+  pub bytes : o + bytes_used (items_from o xs) ≡ 1 + bytes_used (items_of ns)
 
-pub search_start : (ns : List ℕ) (i : ℕ) → length ns % 2 ≡ 0 → Sought ns i 1 0
+pub search_start : (ns : List ℕ) (i : ℕ) {xs : List ℕ} → xs ≡ ns → length ns % 2 ≡ 0 → Sought ns i 1 xs
 unfolding items_of
-search_start ns i e = record { whole = (omega arith, omega arith); has = refl; item = refl; bytes = refl }
+search_start ns i q e = rw q (record { whole = e; has = refl; item = refl; bytes = refl })
 
-module _ {ns : List ℕ} {i o at : ℕ} (v : Sought ns i o at) where
-  pub search_end : length ns ≤ at → has_item i (items_of ns) ≡ false
+module _ {ns : List ℕ} {i o : ℕ} {xs : List ℕ} (v : Sought ns i o xs) where
+  pub search_end : length xs < 2 → has_item i (items_of ns) ≡ false
   unfolding has_item
-  search_end h = v.has ∙ ap (has_item i) (items_end ns at o v.whole h)
+  search_end h = v.has ∙ ap (has_item i) (items_end xs o h v.whole)
 
-  module _ (h : at < length ns) where
+  module _ {pair ys : List ℕ} (p : First xs pair ys) where
     abbrev first : Item
-    first = item_at ns at o
+    first = item_in pair o
 
     abbrev later : List Item
-    later = items_at ns (at + 2) (o + (1 + first.size))
+    later = items_from (o + (1 + first.size)) ys
 
-    left : items_at ns at o ≡ first ∷ later
-    left = items_next ns at o v.whole h ∙ ap (λ k. first ∷ items_at ns (at + 2) k) (omega arith)
+    left : items_from o xs ≡ first ∷ later
+    left = items_next p o ∙ ap (λ k. first ∷ items_from k ys) (omega arith)
 
     -- the offset behind this item is one in the partition
     pub search_within : o + (1 + first.size) ≤ bytes_used (items_of ns)
@@ -217,12 +222,12 @@ module _ {ns : List ℕ} {i o at : ℕ} (v : Sought ns i o at) where
         let t = eq-eqb i first.identifier (sym e) in
         (v.has ∙ rw (left, t), v.item ∙ rw (left, t, e))
 
-    pub search_next : (first.identifier ≡ i → ⊥) → Sought ns i (o + (1 + first.size)) (at + 2)
+    pub search_next : (first.identifier ≡ i → ⊥) → Sought ns i (o + (1 + first.size)) ys
     unfolding has_item item_of bytes_used
     search_next n =
         let f = ne_eqb i first.identifier (λ e. n (sym e)) in
         record {
-          whole = whole_next ns at o v.whole h;
+          whole = whole_next p v.whole;
           has = v.has ∙ rw (left, f);
           item = v.item ∙ rw (left, f);
           bytes = omega (arith, v.bytes, ap bytes_used left);

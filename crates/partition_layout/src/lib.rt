@@ -12,11 +12,11 @@ const NO_IDENTIFIER: usize = 255;
 // Items stand behind a partition's status byte.
 const STATUS_BYTES: usize = 1;
 
-// Where an item stands in a partition, and the length of its data; or the table has none with the identifier.
+// Where an item stands in a partition, and the length of its data.
 #[derive(Clone, Copy)]
-pub enum Place {
-    At(usize, usize),
-    Nowhere,
+pub struct Place {
+    pub offset: usize,
+    pub length: usize,
 }
 
 // Whether a table is right, for partitions of so many bytes. What the items leave of a partition is counted down: all of their
@@ -32,10 +32,9 @@ pub fn layout_ok(layout: &[u8], size: usize) -> bool
     }
     let mut left = size - STATUS_BYTES;
     let mut met = [false; 256];
-    let mut at = 0;
-    while at < layout.len() {
-        let identifier = layout[at] as usize;
-        let length = layout[at + 1] as usize;
+    for pair in layout.chunks_exact(2) {
+        let identifier = usize::from(pair[0]);
+        let length = usize::from(pair[1]);
         if identifier == NO_IDENTIFIER {
             return false;
         }
@@ -51,25 +50,22 @@ pub fn layout_ok(layout: &[u8], size: usize) -> bool
         }
         left -= bytes;
         met[identifier] = true;
-        at += 2;
     }
     true
 }
 
-// Where the item with an identifier stands.
-pub fn find_item(layout: &[u8], item: u8) -> Place
+// Where the item with an identifier stands, if the table has one.
+pub fn find_item(layout: &[u8], item: u8) -> Option<Place>
     requires { (length layout.now % 2 ≡ 0) × (bytes_used (items_of layout.now) ≤ 18446744073709551615) }
     ensures { Placed layout.now item result }
 {
     let mut offset = STATUS_BYTES;
-    let mut at = 0;
-    while at < layout.len() {
-        let length = layout[at + 1] as usize;
-        if layout[at] == item {
-            return Place::At(offset, length);
+    for pair in layout.chunks_exact(2) {
+        let length = usize::from(pair[1]);
+        if pair[0] == item {
+            return Some(Place { offset, length });
         }
         offset += 1 + length;
-        at += 2;
     }
-    Place::Nowhere
+    None
 }

@@ -15,8 +15,7 @@ pub fn packed_write(p: Written) -> u64
     requires { p.steps ≤ 65538 }
     ensures { result ≡ number_of p.answer + 256 * p.steps }
 {
-    let answer = p.answer;
-    partition_store::number_of(answer) + 256 * p.steps
+    u64::from(p.answer) + 256 * p.steps
 }
 
 // The answer, 256 times the length and 65,536 times the offset.
@@ -25,8 +24,7 @@ pub fn packed_spot(p: Spot) -> u64
     requires { p.length ≤ 255 }
     ensures { result ≡ number_of p.answer + 256 * p.length + 65536 * (p.offset % offsets) }
 {
-    let answer = p.answer;
     let length = p.length as u64;
     let offset = (p.offset % OFFSETS) as u64;
-    partition_store::number_of(answer) + 256 * length + 65536 * offset
+    u64::from(p.answer) + 256 * length + 65536 * offset
 }

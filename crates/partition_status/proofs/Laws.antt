@@ -9,12 +9,14 @@ use native.Mathlib.Nat.{zero-mul, suc-mul, mul-le-mul_right, mod-lt, mod-eq_of_l
 use native.Mathlib.Decide.{dec_le}
 use lib.ListN.{length, get_or, length-append}
 use lib.Dec.{eqb}
-use borrow.Author.Tests.{eqb-true, eq-eqb, ne_eqb, not-true}
+use borrow.Author.Tests.{eqb-true, ne_eqb, not-true}
+use Rattle.std.specs.Prelude.{Option, Some, None, is_some, Ok}
 use Rattle.model.specs.Lists.{all}
 use Rattle.model.specs.Laws.Lists.{and_left, all_append}
 use Rattle.model.specs.Chip.{Image}
 use Rattle.partitions.proofs.Laws.{kept_append}
-use Rattle.partitions.specs.Partitions.{no_status, next_status, status_of, next_partition, ends_run, indices, kept, nothing, newest, no_run, only_one, newest_in}
+use Rattle.partitions.specs.Partitions.{no_status, next_status, status_of, next_partition, ends_run, indices, kept, nothing, no_run, only_one, newest_in}
+use Rattle.partition_status.specs.Said.{said}
 
 -- ---- the partitions' places, and the next one
 
@@ -36,13 +38,6 @@ module _ (P p : ℕ) where
   next_inner h = sym (mod-eq_of_lt h)
 
 -- ---- where a run ends
-
-module _ (v u : ℕ) where
-  pub ends_none : v ≡ no_status → false ≡ not (eqb v no_status) && not (eqb u (next_status v))
-  ends_none k = rw (eq-eqb v no_status k)
-
-  pub ends_some : (v ≡ no_status → ⊥) → (w : ℕ) → w ≡ next_status v → not (eqb u w) ≡ not (eqb v no_status) && not (eqb u (next_status v))
-  ends_some n w e = rw (ne_eqb v no_status n, ← e)
 
 -- a partition has no status
 abbrev pub none : ℕ → Image → ℕ → Bool
@@ -100,18 +95,22 @@ several (x ∷ y ∷ xs) n = refl
 
 -- ---- the loop over the partitions
 
+-- where a run ends, if one does
+abbrev pub end_of : Option ℕ → List ℕ
+end_of None = []
+end_of (Some p) = p ∷ []
+
 -- what is known of the partitions before k, with the status of the next one and its offset: where a run ends, if one does, and
 -- whether one has a status. A run that has not ended goes on with the next.
-pub record Looked (P S : ℕ) (s : Image) (ends last status at k : ℕ) : Type 0 where
+pub record Looked (P S : ℕ) (s : Image) (last : Option ℕ) (status at k : ℕ) : Type 0 where
   pub within : k ≤ P
   pub here : status ≡ status_of S s (k % P)
   pub place : at ≡ k % P * S
-  pub unended : ends ≡ 0 → kept (ends_run P S s) (indices k) ≡ []
-  pub ended : 0 < ends → kept (ends_run P S s) (indices k) ≡ last ∷ []
-  pub written : 0 < ends → all (none S s) (indices k) ≡ false
-  pub unwritten : ends ≡ 0 → status ≡ no_status → all (none S s) (indices k) ≡ true
+  pub ended : kept (ends_run P S s) (indices k) ≡ end_of last
+  pub written : is_some last ≡ true → all (none S s) (indices k) ≡ false
+  pub unwritten : is_some last ≡ false → status ≡ no_status → all (none S s) (indices k) ≡ true
 
-pub looked_none : (P S : ℕ) (s : Image) → 0 < P → Looked P S s 0 0 (get_or s 0 0) 0 0
+pub looked_none : (P S : ℕ) (s : Image) → 0 < P → Looked P S s None (get_or s 0 0) 0 0
 unfolding indices all kept status_of
 looked_none P S s h =
     let e : 0 % P ≡ 0 = mod-eq_of_lt h in
@@ -119,9 +118,8 @@ looked_none P S s h =
       within = omega arith;
       here = rw (e, zero-mul);
       place = rw (e, zero-mul);
-      unended = λ o. refl;
-      ended = λ o. absurd (omega arith);
-      written = λ o. absurd (omega arith);
+      ended = refl;
+      written = λ o. cc;
       unwritten = λ o n. refl;
     }
 
@@ -130,7 +128,17 @@ pub found_no_partition : (P S : ℕ) (s : Image) → P ≡ 0 → nothing ≡ new
 unfolding newest_in indices all
 found_no_partition P S s e = rw e
 
-module _ {P S : ℕ} {s : Image} {ends last status at k : ℕ} (v : Looked P S s ends last status at k) where
+module _ {P S : ℕ} {s : Image} {last : Option ℕ} {status at k : ℕ} (v : Looked P S s last status at k) where
+  is_nothing : is_some last ≡ false → last ≡ None
+  is_nothing = go last
+    where
+      go : (l : Option ℕ) → is_some l ≡ false → l ≡ None
+      go None e = refl
+      go (Some p) e = cc
+
+  no_end : is_some last ≡ false → end_of last ≡ []
+  no_end o = ap end_of (is_nothing o)
+
   -- one more
   module _ (h : k < P) where
     -- where it stands, and ends
@@ -162,42 +170,42 @@ module _ {P S : ℕ} {s : Image} {ends last status at k : ℕ} (v : Looked P S s
       has_status : t ≡ true → none S s k ≡ false
       has_status e = rw (← own) (not-true (eqb status no_status) (and_left (not (eqb status no_status)) _ (sym r ∙ e)))
 
-      pub looked_end : {e l : ℕ} → t ≡ true → (0 < ends → ⊥) → e ≡ 1 → l ≡ k → Looked P S s e l (get_or s b 0) b (k + 1)
+      pub looked_end : {l : Option ℕ} → t ≡ true → is_some last ≡ false → l ≡ Some k → Looked P S s l (get_or s b 0) b (k + 1)
       unfolding next_partition
-      looked_end q o a c = record {
+      looked_end q o e = record {
         within = omega arith;
         here = next_here;
         place = p;
-        unended = λ z. absurd (omega arith);
-        ended = λ z. kept_one (ends_run P S s) k (sym test ∙ q) ∙ rw (v.unended (omega arith), c);
+        ended = kept_one (ends_run P S s) k (sym test ∙ q) ∙ rw (v.ended, no_end o, e);
         written = λ z. all_fails (none S s) k (k + 1) (omega arith) (has_status q);
-        unwritten = λ z. absurd (omega arith);
+        unwritten = λ z. absurd (true≢false (rw e at z));
       }
 
-      pub looked_inner : {e l : ℕ} → t ≡ false → e ≡ ends → l ≡ last → Looked P S s e l (get_or s b 0) b (k + 1)
+      pub looked_inner : {l : Option ℕ} → t ≡ false → l ≡ last → Looked P S s l (get_or s b 0) b (k + 1)
       unfolding next_partition
-      looked_inner q a c =
-          let same = kept_none (ends_run P S s) k (sym test ∙ q) in
-          record {
-            within = omega arith;
-            here = next_here;
-            place = p;
-            unended = λ z. same ∙ v.unended (omega arith);
-            ended = λ z. same ∙ rw c (v.ended (omega arith));
-            written = λ z. all_next (none S s) k ∙ rw (v.written (omega arith));
-            unwritten = λ z n.
-                let blank : eqb status no_status ≡ true = follows_none status (get_or s b 0) n (sym r ∙ q) in
-                all_next (none S s) k ∙ rw (← own, blank, v.unwritten (omega arith) (eqb-true status no_status blank));
-          }
+      looked_inner q e = rw e (record {
+        within = omega arith;
+        here = next_here;
+        place = p;
+        ended = kept_none (ends_run P S s) k (sym test ∙ q) ∙ v.ended;
+        written = λ z. all_next (none S s) k ∙ rw (v.written z);
+        unwritten = λ z n.
+            let blank : eqb status no_status ≡ true = follows_none status (get_or s b 0) n (sym r ∙ q) in
+            all_next (none S s) k ∙ rw (← own, blank, v.unwritten z (eqb-true status no_status blank));
+      })
 
       -- a second end
-      pub found_second : t ≡ true → 0 < ends → no_run ≡ newest_in P S s
+      pub found_second : t ≡ true → is_some last ≡ true → no_run ≡ newest_in P S s
       unfolding newest_in
       found_second q o =
           let f = ends_run P S s in
-          let two : kept f (indices (k + 1)) ≡ last ∷ k ∷ [] = kept_one f k (sym test ∙ q) ∙ rw (v.ended o) in
+          let two : length (kept f (indices (k + 1))) ≡ 2 = ap length (kept_one f k (sym test ∙ q) ∙ rw v.ended) ∙ one_end last o in
           let more = kept_grows f (k + 1) P (omega arith) in
-          sym (rw (all_fails (none S s) k P h (has_status q)) (several (kept f (indices P)) (λ z. omega (arith, ap length two))))
+          sym (rw (all_fails (none S s) k P h (has_status q)) (several (kept f (indices P)) (λ z. omega arith)))
+        where
+          one_end : (l : Option ℕ) → is_some l ≡ true → length (end_of l ++ (k ∷ [])) ≡ 2
+          one_end None e = cc
+          one_end (Some p) e = refl
 
   -- all are looked at
   module _ (h : P ≤ k) (some : 0 < P) where
@@ -211,13 +219,18 @@ module _ {P S : ℕ} {s : Image} {ends last status at k : ℕ} (v : Looked P S s
     first : status ≡ status_of S s 0
     first = v.here ∙ rw (whole, mod_self P)
 
-    pub found_one : 0 < ends → newest last ≡ newest_in P S s
-    unfolding only_one
-    found_one o = sym (found (v.written o) ∙ rw (v.ended o))
+    pub found_one : is_some last ≡ true → said (Ok last) ≡ newest_in P S s
+    unfolding only_one said
+    found_one o = sym (found (v.written o) ∙ rw v.ended (go last o))
+      where
+        go : (l : Option ℕ) → is_some l ≡ true → only_one (end_of l) ≡ said (Ok l)
+        go None e = cc
+        go (Some p) e = refl
 
-    pub found_ring : (0 < ends → ⊥) → (status ≡ no_status → ⊥) → no_run ≡ newest_in P S s
+    pub found_ring : is_some last ≡ false → (status ≡ no_status → ⊥) → no_run ≡ newest_in P S s
     unfolding only_one
-    found_ring o n = sym (found (all_fails (none S s) 0 k (omega arith) (rw (← first) (ne_eqb status no_status n))) ∙ rw (v.unended (omega arith)))
+    found_ring o n = sym (found (all_fails (none S s) 0 k (omega arith) (rw (← first) (ne_eqb status no_status n))) ∙ rw (v.ended, no_end o))
 
-    pub found_nothing : (0 < ends → ⊥) → status ≡ no_status → nothing ≡ newest_in P S s
-    found_nothing o n = sym (found (v.unwritten (omega arith) n))
+    pub found_nothing : is_some last ≡ false → status ≡ no_status → said (Ok last) ≡ newest_in P S s
+    unfolding said
+    found_nothing o n = rw (is_nothing o) (sym (found (v.unwritten o n)))

@@ -1,9 +1,9 @@
 -- What the code says of the newest partition.
+use Rattle.std.specs.Prelude.{ℕ, Option, Some, None, Result, Ok, Err}
 use Rattle.partitions.specs.Partitions as partitions
-use Rattle.partition_status.specs.declared.Newest.{Newest}
-use Rattle.partition_status.specs.declared.Newest.TheVariants.{Nothing, At, NoRun}
+use Rattle.partition_status.specs.declared.NoRun.{NoRun}
 
-unfoldable pub said : Newest → partitions.Newest
-said Nothing = partitions.nothing
-said (At p) = partitions.newest p
-said NoRun = partitions.no_run
+unfoldable pub said : Result (Option ℕ) NoRun → partitions.Newest
+said (Ok None) = partitions.nothing
+said (Ok (Some p)) = partitions.newest p
+said (Err e) = partitions.no_run

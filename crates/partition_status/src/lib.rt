@@ -11,30 +11,23 @@ const NO_STATUS: u8 = 255;
 // Statuses run from 0 up to the last before NO_STATUS.
 const STATUSES: u16 = 255;
 
-// No partition has a status; the last partition of the run of statuses; or the statuses are no single run.
+// The statuses are no single run.
 #[derive(Clone, Copy)]
-pub enum Newest {
-    Nothing,
-    At(usize),
-    NoRun,
-}
+pub struct NoRun;
 
 // Whether a board may have so many partitions.
 #[tactic(auto, unfolding(partitions::specs::Partitions::partitions_ok, model::specs::Sequences::among))]
 pub fn partitions_ok(partitions: usize) -> bool
     ensures { result ≡ partitions_ok partitions }
 {
-    match partitions {
-        2 | 4 | 8 | 16 | 32 | 64 | 128 => true,
-        _ => false,
-    }
+    matches!(partitions, 2 | 4 | 8 | 16 | 32 | 64 | 128)
 }
 
 // The status that follows another. It is found in 16 bits: one more than a byte may be no byte.
 pub fn next_status(status: u8) -> u8
     ensures { result ≡ next_status status }
 {
-    ((status as u16 + 1) % STATUSES) as u8
+    ((u16::from(status) + 1) % STATUSES) as u8
 }
 
 // The partition that follows another, the first following the last.
@@ -67,43 +60,37 @@ fn ends_run(status: u8, next: u8) -> bool
     next != next_status(status)
 }
 
-// Which partition is the newest. A run's last is where a run ends; a second end is one of a second run. Where no run ends, all
-// partitions have a status or none has: then the first tells, which is the last to be looked at. That the offset goes round
-// inside the loop is for speed: with 128 partitions 4 KiB apart, as measured, loads that follow each other closer take longer.
-pub fn find_newest(image: &[u8], partitions: usize, size: usize) -> Newest
+// Which partition is the newest, if any has a status. A run's last is where a run ends; a second end is one of a second run.
+// Where no run ends, all partitions have a status or none has: then the first tells, which is the last to be looked at. That the
+// offset goes round inside the loop is for speed: with 128 partitions 4 KiB apart, as measured, loads that follow each other
+// closer take longer.
+pub fn find_newest(image: &[u8], partitions: usize, size: usize) -> Result<Option<usize>, NoRun>
     requires { (0 < size) × (partitions * size ≤ length image.now) }
     ensures { said result ≡ newest_in partitions size image.now }
 {
     if partitions == 0 {
-        return Newest::Nothing;
+        return Ok(None);
     }
     let highest = partitions - 1;
-    let mut ends: usize = 0;
-    let mut last = 0;
+    let mut newest = None;
     let mut status = image[0];
     let mut at = 0;
-    let mut partition = 0;
-    while partition < partitions {
+    for partition in 0..partitions {
         at += size;
         if partition == highest {
             at = 0;
         }
         let next = image[at];
         if ends_run(status, next) {
-            if ends > 0 {
-                return Newest::NoRun;
+            if newest.is_some() {
+                return Err(NoRun);
             }
-            ends = 1;
-            last = partition;
+            newest = Some(partition);
         }
         status = next;
-        partition += 1;
     }
-    if ends > 0 {
-        return Newest::At(last);
+    if newest.is_none() && status != NO_STATUS {
+        return Err(NoRun);
     }
-    if status != NO_STATUS {
-        return Newest::NoRun;
-    }
-    Newest::Nothing
+    Ok(newest)
 }

@@ -25,8 +25,8 @@ use Rattle.partitions.specs.Partitions.{partition_size, next_status, status_of, 
 use Rattle.partitions.specs.Items.{identifier_at, data_at, is_written, is_erased}
 use Rattle.partitions.specs.Writes.{Entry, write_item, write_items, fill, carried, write_steps, item_steps, entry_for}
 use Rattle.partitions.specs.Answers.{worked_in, number_of, is_no_run, refusals, item_fits, write_work, write_outcome, wrote, is_stored, offset_of, read_outcome, told}
-use Rattle.partition_status.specs.declared.Newest as status
-use Rattle.partition_status.specs.declared.Newest.TheVariants.{Nothing, At, NoRun}
+use Rattle.std.specs.Prelude.{Option, Some, None, Result, Ok, Err}
+use Rattle.partition_status.specs.declared.NoRun.{NoRun}
 use Rattle.partition_status.specs.Said.{said}
 use Rattle.partition_items.specs.Carrying.{Carry}
 use Rattle.partitions.proofs.Laws.{right_layout}
@@ -34,7 +34,6 @@ use Rattle.partition_items.proofs.Laws.{inside_item, inside_within, erase_kept}
 use Rattle.partition_items.proofs.Carrying.{carried_same}
 use Rattle.partition_store.specs.Asking.{Known, Asks}
 use Rattle.partition_store.specs.Answering.{Finished, accepted, Performs, write_on, entry_at, read_on}
-use Rattle.partition_store.specs.declared.Asked.TheVariants.{Refused}
 
 -- ---- steps under a budget
 
@@ -113,16 +112,16 @@ module _ (P : ℕ) (layout : List ℕ) (s : Image) (i at : ℕ) (contents : List
       let f : is_blank (take (1 + entry.item.size) (drop (p * S + entry.item.at) s)) ≡ false = rw a.item e in
       rw f
 
-  module _ {n : Newest} {r : status.Newest} (d : said r ≡ n) where
-    pub work_nothing : r ≡ Nothing → write_on P S (items_of layout) s n entry ≡ accepted (fill S 0 (entry_at at i contents ∷ []) 0)
+  module _ {n : Newest} {r : Result (Option ℕ) NoRun} (d : said r ≡ n) where
+    pub work_nothing : r ≡ Ok None → write_on P S (items_of layout) s n entry ≡ accepted (fill S 0 (entry_at at i contents ∷ []) 0)
     unfolding write_on is_no_run write_steps said
     work_nothing e = rw (← d, e, ← entry_stands)
 
-    pub work_newest : {p : ℕ} → r ≡ At p → write_on P S (items_of layout) s n entry ≡ accepted (write_steps P S (items_of layout) s (newest p) entry)
+    pub work_newest : {p : ℕ} → r ≡ Ok (Some p) → write_on P S (items_of layout) s n entry ≡ accepted (write_steps P S (items_of layout) s (newest p) entry)
     unfolding write_on is_no_run said
     work_newest e = rw (← d, e)
 
-    pub work_none : r ≡ NoRun → write_on P S (items_of layout) s n entry ≡ record { code = 4; steps = [] }
+    pub work_none : {x : NoRun} → r ≡ Err x → write_on P S (items_of layout) s n entry ≡ record { code = 4; steps = [] }
     unfolding write_on is_no_run said
     work_none e = rw (← d, e)
 
@@ -138,7 +137,7 @@ module _ (P : ℕ) (layout : List ℕ) (s : Image) (i : ℕ) (contents : List �
   unfolding item_fits
   unfit e = rw e
 
-  pub write_refused : (r : Reply) → Asks P layout s i (Refused r) → wrote (record { answer = r; steps = 0 }) s ≡ write_outcome P layout s i contents budget
+  pub write_refused : (r : Reply) → Asks P layout s i (Err r) → wrote (record { answer = r; steps = 0 }) s ≡ write_outcome P layout s i contents budget
   unfolding refusals
   write_refused r a = refused_by r a.0 (a.1 (item_fits layout i contents) [] unfit)
 
@@ -173,25 +172,25 @@ abbrev asked : ℕ → ℕ → ℕ → Item
 asked i size at = record { identifier = i; size = size; at = at }
 
 -- by the newest partition
-module _ (S : ℕ) (s : Image) (i size at : ℕ) {n : Newest} {r : status.Newest} (d : said r ≡ n) where
-  pub read_nothing : r ≡ Nothing → told (record { answer = Unwritten; offset = 0; length = 0 }) ≡ read_on S s n (asked i size at)
+module _ (S : ℕ) (s : Image) (i size at : ℕ) {n : Newest} {r : Result (Option ℕ) NoRun} (d : said r ≡ n) where
+  pub read_nothing : r ≡ Ok None → told (record { answer = Unwritten; offset = 0; length = 0 }) ≡ read_on S s n (asked i size at)
   unfolding told read_on first_of is_no_run is_stored number_of said
   read_nothing e = rw (← d, e)
 
-  pub read_none : r ≡ NoRun → told (record { answer = Statuses; offset = 0; length = 0 }) ≡ read_on S s n (asked i size at)
+  pub read_none : {x : NoRun} → r ≡ Err x → told (record { answer = Statuses; offset = 0; length = 0 }) ≡ read_on S s n (asked i size at)
   unfolding told read_on first_of is_no_run is_stored number_of said
   read_none e = rw (← d, e)
 
-  pub read_unwritten : {p : ℕ} → r ≡ At p → (get_or s (p * S + at) 0 ≡ i → ⊥) → told (record { answer = Unwritten; offset = 0; length = 0 }) ≡ read_on S s n (asked i size at)
+  pub read_unwritten : {p : ℕ} → r ≡ Ok (Some p) → (get_or s (p * S + at) 0 ≡ i → ⊥) → told (record { answer = Unwritten; offset = 0; length = 0 }) ≡ read_on S s n (asked i size at)
   unfolding told read_on first_of is_no_run is_stored is_written identifier_at number_of said
   read_unwritten {p} e f = rw (← d, e, ne_eqb (get_or s (p * S + at) 0) i f)
 
-  pub read_written : {p : ℕ} → r ≡ At p → get_or s (p * S + at) 0 ≡ i → told (record { answer = Done; offset = p * S + at + 1; length = size }) ≡ read_on S s n (asked i size at)
+  pub read_written : {p : ℕ} → r ≡ Ok (Some p) → get_or s (p * S + at) 0 ≡ i → told (record { answer = Done; offset = p * S + at + 1; length = size }) ≡ read_on S s n (asked i size at)
   unfolding told read_on first_of is_no_run is_stored is_written offset_of data_at identifier_at number_of said
   read_written {p} e f = rw (← d, e, eq-eqb (get_or s (p * S + at) 0) i f)
 
 module _ (P : ℕ) (layout : List ℕ) (s : Image) (i : ℕ) where
-  pub read_refused : (r : Reply) → Asks P layout s i (Refused r) → told (record { answer = r; offset = 0; length = 0 }) ≡ read_outcome P layout s i
+  pub read_refused : (r : Reply) → Asks P layout s i (Err r) → told (record { answer = r; offset = 0; length = 0 }) ≡ read_outcome P layout s i
   unfolding told read_outcome
   read_refused r a = rw (a.1 (has_item i (items_of layout)) ((5 when not (is_stored (partition_size P s) s (newest_of P s) (item_of i (items_of layout)))) ∷ []) (λ e. e), ne_eqb (number_of r) 0 a.0)
 

@@ -19,13 +19,14 @@ use Rattle.partitions.specs.Layout.{Item, items_from, items_of, layout_ok, has_i
 use Rattle.partitions.specs.Partitions.{partitions_ok, image_ok, partition_size, next_partition, status_of, no_status, ends_run, indices, kept, nothing, newest, only_one, newest_in}
 use Rattle.partitions.specs.Answers.{number_of, refusals}
 use Rattle.partitions.proofs.Laws.{right_layout, item_lies, used_some}
-use Rattle.partition_status.specs.declared.Newest as status
-use Rattle.partition_status.specs.declared.Newest.TheVariants.{At}
+use Rattle.std.specs.Prelude.{Option, Some, None, Result, Ok, Err, ok_or}
+use Rattle.partition_layout.specs.declared.Place.{Place}
+use Rattle.partition_layout.specs.Places.{Placed}
+use Rattle.partition_status.specs.declared.NoRun.{NoRun}
 use Rattle.partition_status.specs.Said.{said}
 use Rattle.partition_status.proofs.Laws.{next_below, next_first, next_inner}
 use Rattle.partition_items.specs.Carrying.{Carry}
 use Rattle.partition_store.specs.Asking.{Known, Asks, Stands}
-use Rattle.partition_store.specs.declared.Asked.TheVariants.{Refused, Item as Found}
 
 -- ---- numbers of a board
 
@@ -92,15 +93,15 @@ newest_below P S p s = go (all (λ q. eqb (status_of S s q) no_status) (indices 
 -- ---- what refuses a request
 
 module _ (P : ℕ) (layout : List ℕ) (s : Image) (i : ℕ) where
-  wrong_image : image_ok P s ≡ false → Asks P layout s i (Refused Partitions)
+  wrong_image : image_ok P s ≡ false → Asks P layout s i (Err Partitions)
   unfolding first_of refusals number_of
   wrong_image e = (λ z. omega arith, λ fits more h. rw e)
 
-  pub wrong_partitions : partitions_ok P ≡ false → Asks P layout s i (Refused Partitions)
+  pub wrong_partitions : partitions_ok P ≡ false → Asks P layout s i (Err Partitions)
   unfolding image_ok
   wrong_partitions e = wrong_image (rw e)
 
-  pub wrong_length : partitions_ok P ≡ true → (length s % P ≡ 0 → ⊥) → Asks P layout s i (Refused Partitions)
+  pub wrong_length : partitions_ok P ≡ true → (length s % P ≡ 0 → ⊥) → Asks P layout s i (Err Partitions)
   unfolding image_ok
   wrong_length e n = wrong_image (rw (e, ne_eqb (length s % P) 0 n))
 
@@ -109,11 +110,11 @@ module _ (P : ℕ) (layout : List ℕ) (s : Image) (i : ℕ) where
   right_image e z = rw (e, eq-eqb (length s % P) 0 z)
 
   module _ (right : image_ok P s ≡ true) where
-    pub wrong_table : layout_ok (length s / P) layout ≡ false → Asks P layout s i (Refused Layout)
+    pub wrong_table : layout_ok (length s / P) layout ≡ false → Asks P layout s i (Err Layout)
     unfolding first_of refusals number_of partition_size
     wrong_table e = (λ z. omega arith, λ fits more h. rw (right, e))
 
-    pub wrong_item : layout_ok (length s / P) layout ≡ true → has_item i (items_of layout) ≡ false → Asks P layout s i (Refused Mismatch)
+    wrong_item : layout_ok (length s / P) layout ≡ true → has_item i (items_of layout) ≡ false → Asks P layout s i (Err Mismatch)
     unfolding first_of refusals number_of partition_size
     wrong_item e n = (λ z. omega arith, λ fits more h. rw (right, e, h n))
 
@@ -131,8 +132,8 @@ size_short i o (k ∷ n ∷ r) h = go (eqb i k) (size_short i (o + 1 + n) r (λ 
     go false q = q
 
 module _ (P : ℕ) (layout : List ℕ) (s : Image) (i at size : ℕ) where
-  pub right_item : image_ok P s ≡ true → layout_ok (length s / P) layout ≡ true → has_item i (items_of layout) ≡ true → item_of i (items_of layout) ≡ record { identifier = i; size = size; at = at }
-      → ((k : ℕ) → get_or layout k 0 ≤ 255) → Asks P layout s i (Found at size)
+  right_item : image_ok P s ≡ true → layout_ok (length s / P) layout ≡ true → has_item i (items_of layout) ≡ true → item_of i (items_of layout) ≡ record { identifier = i; size = size; at = at }
+      → ((k : ℕ) → get_or layout k 0 ≤ 255) → Asks P layout s i (Ok (record { offset = at; length = size }))
   unfolding partition_size items_of
   right_item r t h e small = record { image = r; table = t; has = h; item = e; short = omega (arith, size_short i 1 layout small, ap (λ (x : Item). x.size) e) }
 
@@ -151,6 +152,12 @@ module _ (P : ℕ) (layout : List ℕ) (s : Image) (i at size : ℕ) where
           inside = omega (arith, lies.inside, ap (λ (x : Item). x.at) a.item, ap (λ (x : Item). x.size) a.item);
           short = a.short;
         }
+
+-- what the search of a right table has found, or that it has found nothing
+pub found_or : (P : ℕ) (layout : List ℕ) (s : Image) (i : ℕ) → image_ok P s ≡ true → layout_ok (length s / P) layout ≡ true → ((k : ℕ) → get_or layout k 0 ≤ 255)
+    → (r : Option Place) → Placed layout i r → Asks P layout s i (ok_or r Mismatch)
+found_or P layout s i right table bytes None n = wrong_item P layout s i right table n
+found_or P layout s i right table bytes (Some p) h = right_item P layout s i p.offset p.length right table h.0 h.1 bytes
 
 -- an item's bytes in one of the partitions
 pub place_inside : (P at size n p : ℕ) → Stands P at size n → p < P → p * (n / P) + at + 1 + size ≤ n
@@ -176,10 +183,10 @@ table_some S layout e = omega (arith, (right_layout S layout e).fit, used_some (
 
 -- ---- what the search for the newest says
 
-pub said_below : (P S : ℕ) (s : Image) {r : status.Newest} {p : ℕ} → said r ≡ newest_in P S s → r ≡ At p → p < P
+pub said_below : (P S : ℕ) (s : Image) {r : Result (Option ℕ) NoRun} {p : ℕ} → said r ≡ newest_in P S s → r ≡ Ok (Some p) → p < P
 unfolding said
 said_below P S s {r} {p} e f = newest_below P S p s (sym e ∙ ap said f)
 
 -- the item's bytes in the newest partition
-pub newest_inside : (P at size : ℕ) (s : Image) {r : status.Newest} {p : ℕ} → Stands P at size (length s) → said r ≡ newest_in P (length s / P) s → r ≡ At p → p * (length s / P) + at + 1 + size ≤ length s
+pub newest_inside : (P at size : ℕ) (s : Image) {r : Result (Option ℕ) NoRun} {p : ℕ} → Stands P at size (length s) → said r ≡ newest_in P (length s / P) s → r ≡ Ok (Some p) → p * (length s / P) + at + 1 + size ≤ length s
 newest_inside P at size s {r} {p} z e f = place_inside P at size (length s) p z (said_below P (length s / P) s e f)

@@ -6,57 +6,31 @@ ghost use Rattle.std.specs.Prelude.{◌≡◌, [], ◌∷◌, ℕ, ◌+◌, ◌/
 ghost use Rattle.partitions.specs.Layout.{items_of};
 ghost use Rattle.partitions.specs.Partitions as board;
 ghost use Rattle.partitions.specs.Writes.{fill, carried, write_steps, item_steps, entry_for};
-ghost use Rattle.partitions.specs.Answers.{worked_in, number_of, write_outcome, wrote, read_outcome, told};
+ghost use Rattle.partitions.specs.Answers.{worked_in, write_outcome, wrote, read_outcome, told};
 ghost use Rattle.partition_items.specs.Carrying.{Carry};
 ghost use Rattle.partition_store.specs.Asking.{Known, Asks, Stands};
 ghost use Rattle.partition_store.specs.Answering.{Finished, Performs, write_on, entry_at, read_on};
 
 use partition_layout::Place;
-use partition_status::Newest;
+use partition_status::NoRun;
 use partitions::{Reply, Spot, Written};
 
 // ---- what a request asks for
 
-// It is refused; or its item's identifier byte stands at this offset of a partition, with so many bytes of data.
-#[derive(Clone, Copy)]
-enum Asked {
-    Refused(Reply),
-    Item(usize, usize),
-}
-
-// Tests everything but the data's length and the statuses, in the order of the refusals.
-fn find(image: &[u8], partitions: usize, layout: &[u8], item: u8) -> Asked
+// Where its item stands in a partition. Tests everything but the data's length and the statuses, in the order of the refusals.
+fn find(image: &[u8], partitions: usize, layout: &[u8], item: u8) -> Result<Place, Reply>
     ensures { Asks partitions layout.now image.now item result }
 {
     if !partition_status::partitions_ok(partitions) {
-        return Asked::Refused(Reply::Partitions);
+        return Err(Reply::Partitions);
     }
     if image.len() % partitions != 0 {
-        return Asked::Refused(Reply::Partitions);
+        return Err(Reply::Partitions);
     }
     if !partition_layout::layout_ok(layout, image.len() / partitions) {
-        return Asked::Refused(Reply::Layout);
+        return Err(Reply::Layout);
     }
-    let place = partition_layout::find_item(layout, item);
-    match place {
-        Place::At(at, bytes) => Asked::Item(at, bytes),
-        Place::Nowhere => Asked::Refused(Reply::Mismatch),
-    }
-}
-
-// The number of an answer, to reckon with.
-pub fn number_of(answer: Reply) -> u64
-    ensures { (result ≡ number_of answer) × (result ≤ 255) }
-{
-    match answer {
-        Reply::Done => 0,
-        Reply::Partitions => 1,
-        Reply::Layout => 2,
-        Reply::Mismatch => 3,
-        Reply::Statuses => 4,
-        Reply::Unwritten => 5,
-        Reply::Cut => 9,
-    }
+    partition_layout::find_item(layout, item).ok_or(Reply::Mismatch)
 }
 
 // ---- reading
@@ -78,10 +52,9 @@ fn read_found(image: &[u8], partitions: usize, item: u8, at: usize, bytes: usize
     ensures { (told result ≡ read_on (length image.now / partitions) image.now (board.newest_in partitions (length image.now / partitions) image.now) (record { identifier = item; size = bytes; at = at })) × (result.length ≤ 255) }
 {
     let size = image.len() / partitions;
-    let newest = partition_status::find_newest(image, partitions, size);
-    match newest {
-        Newest::Nothing => unread(Reply::Unwritten),
-        Newest::At(partition) => {
+    match partition_status::find_newest(image, partitions, size) {
+        Ok(None) => unread(Reply::Unwritten),
+        Ok(Some(partition)) => {
             let place = partition * size + at;
             if image[place] != item {
                 return unread(Reply::Unwritten);
@@ -92,7 +65,7 @@ fn read_found(image: &[u8], partitions: usize, item: u8, at: usize, bytes: usize
                 length: bytes,
             }
         }
-        Newest::NoRun => unread(Reply::Statuses),
+        Err(NoRun) => unread(Reply::Statuses),
     }
 }
 
@@ -100,10 +73,9 @@ fn read_found(image: &[u8], partitions: usize, item: u8, at: usize, bytes: usize
 pub fn read(image: &[u8], partitions: usize, layout: &[u8], item: u8) -> Spot
     ensures { (told result ≡ read_outcome partitions layout.now image.now item) × (result.length ≤ 255) }
 {
-    let asked = find(image, partitions, layout, item);
-    match asked {
-        Asked::Refused(answer) => unread(answer),
-        Asked::Item(at, bytes) => read_found(image, partitions, item, at, bytes),
+    match find(image, partitions, layout, item) {
+        Ok(place) => read_found(image, partitions, item, place.offset, place.length),
+        Err(answer) => unread(answer),
     }
 }
 
@@ -221,13 +193,12 @@ fn write_found(
     ensures { wrote result image.new ≡ worked_in (length image.old / partitions) (write_on partitions (length image.old / partitions) (items_of layout.now) image.old (board.newest_in partitions (length image.old / partitions) image.old) (entry_for layout.now item contents.now)) image.old budget }
 {
     let size = image.len() / partitions;
-    let newest = partition_status::find_newest(image, partitions, size);
-    match newest {
-        Newest::Nothing => write_first(image, size, at, item, contents, budget),
-        Newest::At(partition) => write_newest(
+    match partition_status::find_newest(image, partitions, size) {
+        Ok(None) => write_first(image, size, at, item, contents, budget),
+        Ok(Some(partition)) => write_newest(
             image, partitions, partition, layout, at, item, contents, budget,
         ),
-        Newest::NoRun => refused(Reply::Statuses),
+        Err(NoRun) => refused(Reply::Statuses),
     }
 }
 
@@ -242,14 +213,21 @@ pub fn write(
 ) -> Written
     ensures { wrote result image.new ≡ write_outcome partitions layout.now image.old item contents.now budget }
 {
-    let asked = find(image, partitions, layout, item);
-    match asked {
-        Asked::Refused(answer) => refused(answer),
-        Asked::Item(at, bytes) => {
-            if contents.len() != bytes {
+    match find(image, partitions, layout, item) {
+        Ok(place) => {
+            if contents.len() != place.length {
                 return refused(Reply::Mismatch);
             }
-            write_found(image, partitions, layout, at, item, contents, budget)
+            write_found(
+                image,
+                partitions,
+                layout,
+                place.offset,
+                item,
+                contents,
+                budget,
+            )
         }
+        Err(answer) => refused(answer),
     }
 }

@@ -11,22 +11,21 @@ ghost use Rattle.account_text.specs.Map.{map_on, map_text};
 ghost use Rattle.index.specs.Shows.{uncounted};
 
 use index::Shown;
-use model::MOST_SEGMENTS;
+use model::{Geometry, MOST_SEGMENTS};
 use text::Printed;
 
 // The whole text, from the buffer's front on.
 fn draw(
     image: &[u8],
-    segments: usize,
-    slots: usize,
+    geometry: Geometry,
     table: [Shown; MOST_SEGMENTS],
     next: usize,
     text: &mut [u8],
 ) -> usize
-    requires { Sized segments slots (length image.now) × (take segments table ≡ each uncounted (shown segments slots (segments_of segments slots image.now))) × (next ≡ next_number (shown segments slots (segments_of segments slots image.now))) }
-    ensures { Wrote (map_on segments slots (segments_of segments slots image.now)) text.old 0 text.new result }
+    requires { Sized geometry.segments geometry.slots (length image.now) × (take geometry.segments table ≡ each uncounted (shown geometry.segments geometry.slots (segments_of geometry.segments geometry.slots image.now))) × (next ≡ next_number (shown geometry.segments geometry.slots (segments_of geometry.segments geometry.slots image.now))) }
+    ensures { Wrote (map_on geometry.segments geometry.slots (segments_of geometry.segments geometry.slots image.now)) text.old 0 text.new result }
 {
-    let rows = mapping::map_rows(image, segments, slots, table, next, text, 0);
+    let rows = mapping::map_rows(image, geometry, table, next, text, 0);
     mapping::add_legend(text, rows)
 }
 
@@ -35,16 +34,17 @@ fn draw(
 pub fn map(image: &[u8], segments: usize, slots: usize, text: &mut [u8]) -> Printed
     ensures { printed result text.new ≡ print_in (map_text segments slots image.now) text.old }
 {
+    let geometry = Geometry { segments, slots };
     if !request::right_size(image.len(), segments, slots) {
         return printing::wrong_size(text);
     }
-    let survey = scan::survey(image, segments, slots);
-    let table = listing::see(image, segments, slots, survey);
+    let survey = scan::survey(image, geometry);
+    let table = listing::see(image, geometry, survey);
     let next = listing::next_number(table, segments);
     let mut none = [0u8; 1];
-    let length = draw(image, segments, slots, table, next, &mut none);
+    let length = draw(image, geometry, table, next, &mut none);
     if length > text.len() {
         return text::short();
     }
-    text::done(draw(image, segments, slots, table, next, text))
+    text::done(draw(image, geometry, table, next, text))
 }

@@ -1,15 +1,26 @@
 -- What the code makes of a table of places: what one entry says of an image, and the entries that a walk over slots makes.
-use Rattle.std.specs.Prelude.{ℕ, zero, suc, ◌+◌, ◌*◌, ◌/◌, ◌%◌, ◌≡◌, Bool, true, cond, ◌&&◌, not, List, [], ◌∷◌, ◌++◌, length, get_or, drop, set, replicate, leb, eqb}
+use Rattle.std.specs.Prelude.{ℕ, zero, suc, ◌+◌, ◌*◌, ◌/◌, ◌%◌, ◌≡◌, Bool, true, cond, ◌&&◌, not, List, [], ◌∷◌, ◌++◌, length, get_or, drop, set, replicate, leb, eqb, Option, None, Result, Ok, Err}
 use Rattle.model.specs.Chip.{Image, Page, right_size}
 use Rattle.model.specs.Slot.{written, most_contents, page_block}
 use Rattle.model.specs.State.{clean, state, view}
 use Rattle.model.specs.Steps.{slot_at}
 use Rattle.model.specs.Mounted.{Places, unusable}
 use Rattle.model.proofs.Laws.Segments.{part_of}
-use Rattle.places.specs.declared.Entry.{Entry}
-use Rattle.places.specs.declared.Entry.TheVariants.{At, Absent, Stale}
+use Rattle.find.specs.declared.FoundSlot.{FoundSlot}
+use Rattle.find.specs.Search.{slot_found}
+use Rattle.places.specs.declared.Stale.{Stale}
 
 -- ---- one entry
+
+-- what an entry says of an image: of a live slot, of none, or that the table is not that of the image
+abbrev pub Entry : Type 0
+Entry = Result (Option FoundSlot) Stale
+
+abbrev pub absent : Entry
+absent = Ok None
+
+abbrev pub stale : Entry
+stale = Err (record {})
 
 -- a slot's page, and no header's, begins at offset e of so many bytes
 unfoldable pub is_slot_place : ℕ → ℕ → ℕ → Bool
@@ -18,8 +29,8 @@ is_slot_place B bytes e = eqb (e % 256) 0 && (not (eqb (e / 256 % (B + 1)) 0) &&
 -- 0 says that the block is not stored. Any other entry is a slot's place, with a length there that fits a slot; or the table is not that of the image
 unfoldable pub entry_seen : ℕ → Image → ℕ → Entry
 entry_seen B s e = let l = get_or s (e + 1) 0 in
-    cond (eqb e 0) Absent
-    (cond (is_slot_place B (length s) e && leb l most_contents) (At (record { 0 = e }) l) Stale)
+    cond (eqb e 0) absent
+    (cond (is_slot_place B (length s) e && leb l most_contents) (Ok (slot_found e l)) stale)
 
 -- ---- the walk
 

@@ -30,10 +30,10 @@ fn counts_line(text: &mut [u8], at: usize, counts: Counts) -> usize
     requires { at + 66 ≤ most_text }
     ensures { Wrote (counts_line counts ++ ascii "\n") text.old at text.new result × (result ≤ at + 66) }
 {
-    let lives = text::add_labelled(text, at, b" live ", counts.live as u32);
-    let deads = text::add_labelled(text, lives, b" dead ", counts.dead as u32);
-    let cuts = text::add_labelled(text, deads, b" cut ", counts.cut as u32);
-    add_ended(text, cuts, b" empty ", counts.empty as u32)
+    let lives = text::add_labelled(text, at, b" live ", u32::from(counts.live));
+    let deads = text::add_labelled(text, lives, b" dead ", u32::from(counts.dead));
+    let cuts = text::add_labelled(text, deads, b" cut ", u32::from(counts.cut));
+    add_ended(text, cuts, b" empty ", u32::from(counts.empty))
 }
 
 // Of a segment in use, what stands behind its index: the label of its state with the number, and the counts.
@@ -50,9 +50,8 @@ fn segment_line(text: &mut [u8], at: usize, index: u32, shown: Shown) -> usize
     requires { at + 110 ≤ most_text }
     ensures { Wrote (shown_line index shown) text.old at text.new result × (result ≤ at + 110) }
 {
-    let state = shown.state;
     let behind = text::add_labelled(text, at, b"seg ", index);
-    match state {
+    match shown.state {
         SegmentState::Blank => text::add(text, behind, b" blank\n"),
         SegmentState::Invalid => text::add(text, behind, b" torn\n"),
         SegmentState::InUse => used_line(text, behind, b" used num ", shown),
@@ -71,10 +70,8 @@ pub fn segment_lines(
     ensures { Wrote (shown_lines 0 (take segments table)) text.old at text.new result × (result ≤ at + 110 * segments) }
 {
     let mut end = at;
-    let mut i: usize = 0;
-    while i < segments {
+    for i in 0..segments {
         end = segment_line(text, end, i as u32, table[i]);
-        i += 1;
     }
     end
 }

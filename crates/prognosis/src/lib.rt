@@ -9,23 +9,19 @@ ghost use Rattle.scan.specs.Surveys.{survey_of};
 ghost use Rattle.mend.specs.Erasing.{erasing};
 ghost use Rattle.prognosis.specs.Foretold.{prognosis_of, Small};
 
-use model::SegmentNumber;
+use model::{Geometry, SegmentNumber};
 use scan::Surveyed;
 
+// The first condition of Clean that fails, by its place.
 #[derive(Clone, Copy)]
-pub enum Prognosis {
-    // Answer 0, after so many steps.
-    Recovers { steps: u32 },
-    // Answer 4, and the first condition of Clean that fails.
-    Fails { place: u32 },
-}
+pub struct FailedCondition(pub u32);
 
 // How many steps it takes to erase the segment after the top: one more where the top's header counts it.
-fn erase_steps(image: &[u8], segments: usize, slots: usize, top: SegmentNumber) -> u32
-    requires { Sized segments slots (length image.now) }
-    ensures { (result ≡ length (erasing segments slots top.0 image.now)) × (result ≤ 2) }
+fn erase_steps(image: &[u8], geometry: Geometry, top: SegmentNumber) -> u32
+    requires { Sized geometry.segments geometry.slots (length image.now) }
+    ensures { (result ≡ length (erasing geometry.segments geometry.slots top.0 image.now)) × (result ≤ 2) }
 {
-    let told = tally::tally_in(image, segments, slots, top);
+    let told = tally::tally_in(image, geometry, top);
     if told.former {
         return 1;
     }
@@ -36,42 +32,32 @@ fn erase_steps(image: &[u8], segments: usize, slots: usize, top: SegmentNumber) 
 }
 
 // How many it takes to erase that segment, unless it is blank, and to settle the top's status.
-fn settle_steps(image: &[u8], segments: usize, slots: usize, top: SegmentNumber, blank: bool) -> u32
-    requires { Sized segments slots (length image.now) }
-    ensures { (result ≡ cond blank 0 (length (erasing segments slots top.0 image.now)) + 1) × (result ≤ 3) }
+fn settle_steps(image: &[u8], geometry: Geometry, top: SegmentNumber, blank: bool) -> u32
+    requires { Sized geometry.segments geometry.slots (length image.now) }
+    ensures { (result ≡ cond blank 0 (length (erasing geometry.segments geometry.slots top.0 image.now)) + 1) × (result ≤ 3) }
 {
     if blank {
         return 1;
     }
-    erase_steps(image, segments, slots, top) + 1
+    erase_steps(image, geometry, top) + 1
 }
 
-// What recovery would answer on an image, by its survey.
-pub fn foretell(image: &[u8], segments: usize, slots: usize, survey: Surveyed) -> Prognosis
-    requires { (right_size segments slots image.now ≡ true) × (survey ≡ survey_of segments slots (segments_of segments slots image.now)) }
-    ensures { (result ≡ prognosis_of segments slots (segments_of segments slots image.now)) × Small result }
+// What recovery would answer on an image, by its survey: 0 after so many steps, or 4. A frame of its
+// own: the set of block numbers that a damaged image takes is none of an account's, which has large tables.
+#[inline(never)]
+pub fn foretell(image: &[u8], geometry: Geometry, survey: Surveyed) -> Result<u32, FailedCondition>
+    requires { (right_size geometry.segments geometry.slots image.now ≡ true) × (survey ≡ survey_of geometry.segments geometry.slots (segments_of geometry.segments geometry.slots image.now)) }
+    ensures { (result ≡ prognosis_of geometry.segments geometry.slots (segments_of geometry.segments geometry.slots image.now)) × Small result }
 {
     match survey {
-        Surveyed::Clean {
-            first: _,
-            used: _,
-            live: _,
-            free: _,
-            compactions: _,
-        } => Prognosis::Recovers { steps: 0 },
-        Surveyed::TornSegment { top } => {
-            let steps = erase_steps(image, segments, slots, top);
-            Prognosis::Recovers { steps }
-        }
-        Surveyed::ErasePending { top, blank } => {
-            let steps = settle_steps(image, segments, slots, top, blank);
-            Prognosis::Recovers { steps }
-        }
-        Surveyed::TornSlot { place: _ } => Prognosis::Recovers { steps: 1 },
-        Surveyed::OldSlot { place: _ } => Prognosis::Recovers { steps: 1 },
+        Surveyed::Clean { .. } => Ok(0),
+        Surveyed::TornSegment { top } => Ok(erase_steps(image, geometry, top)),
+        Surveyed::ErasePending { top, blank } => Ok(settle_steps(image, geometry, top, blank)),
+        Surveyed::TornSlot { .. } => Ok(1),
+        Surveyed::OldSlot { .. } => Ok(1),
         Surveyed::Damaged => {
-            let place = faults::first_failing(image, segments, slots) as u32;
-            Prognosis::Fails { place }
+            let place = faults::first_failing(image, geometry.segments, geometry.slots) as u32;
+            Err(FailedCondition(place))
         }
     }
 }

@@ -1,5 +1,5 @@
 -- A put: what its parts want to know of the image, and its last steps.
-use Rattle.std.specs.Prelude.{ℕ, ◌+◌, ◌-◌, ◌≤◌, ◌<◌, ◌≡◌, true, false, List, [], ◌++◌, length, leb}
+use Rattle.std.specs.Prelude.{ℕ, ◌+◌, ◌-◌, ◌≤◌, ◌<◌, ◌≡◌, true, false, List, [], ◌++◌, length, leb, Option, None, Some}
 use Rattle.model.specs.Chip.{Image, Bytes, Step, most_segments, right_size}
 use Rattle.model.specs.Header.{is_former, tally_of}
 use Rattle.model.specs.Slot.{number_ok}
@@ -7,8 +7,7 @@ use Rattle.model.specs.State.{View, view, clean, state}
 use Rattle.model.specs.Steps.{on_page, slot_at, write_slot, mark_dead, top_row, first_empty, write_at_top, mark_old, is_worn}
 use Rattle.model.specs.Answers.{length_ok, is_full}
 use Rattle.model.specs.declared.Performed.{Performed}
-use Rattle.find.specs.declared.Found.{Found}
-use Rattle.find.specs.declared.Found.TheVariants.{At, Nothing}
+use Rattle.find.specs.declared.FoundSlot.{FoundSlot}
 use Rattle.find.specs.Search.{rows_at, found_in}
 use Rattle.flash.specs.Ran.{Ran, shifted}
 use Rattle.flash.specs.Pages.{Sized}
@@ -26,7 +25,7 @@ pub record Puttable (N B : ℕ) (p : Plan) (b : ℕ) (c : List ℕ) (s : Image) 
   pub taken : length_ok (length c) ≡ true
 
 -- not refused. The search was made at least where nothing will move, and the tally is right at least where there will be a new header
-pub record Accepted (N B : ℕ) (p : Plan) (total : ℕ) (f : Found) (b : ℕ) (c : List ℕ) (s : Image) : Type 0 where
+pub record Accepted (N B : ℕ) (p : Plan) (total : ℕ) (f : Option FoundSlot) (b : ℕ) (c : List ℕ) (s : Image) : Type 0 where
   pub put : Puttable N B p b c s
   pub second : is_former (view N B s).version ≡ false
   pub found : leb B p.slot ≡ false → f ≡ found_in N B p.first.0 (rows_at N B s p.used p.first.0) b
@@ -35,7 +34,7 @@ pub record Accepted (N B : ℕ) (p : Plan) (total : ℕ) (f : Found) (b : ℕ) (
   pub tally : B ≤ p.slot → total ≡ tally_of (view N B s).version
 
 -- room is made, and the old slot is searched
-pub record Ready (N B : ℕ) (r : Room) (f : Found) (b : ℕ) (c : List ℕ) (budget : ℕ) (s : Image) : Type 0 where
+pub record Ready (N B : ℕ) (r : Room) (f : Option FoundSlot) (b : ℕ) (c : List ℕ) (budget : ℕ) (s : Image) : Type 0 where
   pub size : right_size N B s ≡ true
   pub state : state N B s ≡ clean
   pub first : r.first.0 ≡ (view N B s).first
@@ -53,12 +52,12 @@ last_steps N B b c v = write_at_top N B b c v ++ mark_old N B b v
 -- ---- the last steps on any image
 
 -- an old slot begins inside the image
-abbrev pub OldInside : Found → ℕ → Type 0
-OldInside (At q n) bytes = q.0 < bytes
-OldInside Nothing bytes = Unit {0}
+abbrev pub OldInside : Option FoundSlot → ℕ → Type 0
+OldInside (Some x) bytes = x.place.0 < bytes
+OldInside None bytes = Unit {0}
 
 -- what writing a slot and marking an old one ask for, whatever the image
-pub record Placed (N B : ℕ) (r : Room) (f : Found) (c : List ℕ) (budget bytes : ℕ) : Type 0 where
+pub record Placed (N B : ℕ) (r : Room) (f : Option FoundSlot) (c : List ℕ) (budget bytes : ℕ) : Type 0 where
   pub sized : Sized N B bytes
   pub some : 1 ≤ r.used
   pub few : r.used ≤ most_segments
@@ -68,15 +67,15 @@ pub record Placed (N B : ℕ) (r : Room) (f : Found) (c : List ℕ) (budget byte
   pub left : r.left ≤ budget
 
 -- the old slot marked, if there is one
-unfoldable pub mark_found : Found → List Step
-mark_found (At q n) = shifted q.0 mark_dead
-mark_found Nothing = []
+unfoldable pub mark_found : Option FoundSlot → List Step
+mark_found (Some x) = shifted x.place.0 mark_dead
+mark_found None = []
 
 -- the last steps by what was found out: where the slot is free, and where the old one is
-unfoldable pub last_steps_at : ℕ → ℕ → Room → Found → ℕ → List ℕ → List Step
+unfoldable pub last_steps_at : ℕ → ℕ → Room → Option FoundSlot → ℕ → List ℕ → List Step
 last_steps_at N B r f b c = on_page (slot_at N B (r.first.0 + r.used - 1) r.slot) (write_slot b c) ++ mark_found f
 
-pub record Wrote (N B : ℕ) (r : Room) (f : Found) (b : ℕ) (c : List ℕ) (budget : ℕ) (p : Performed) (from to : Image) : Type 0 where
+pub record Wrote (N B : ℕ) (r : Room) (f : Option FoundSlot) (b : ℕ) (c : List ℕ) (budget : ℕ) (p : Performed) (from to : Image) : Type 0 where
   pub left : ℕ
   pub ran : Ran (last_steps_at N B r f b c) B r.left left from to
   pub finished : Finished budget left r.left (length (last_steps_at N B r f b c)) p

@@ -13,8 +13,9 @@ use Rattle.model.specs.Steps.{top_number, compactions, new_numbers, is_worn}
 use Rattle.model.specs.Answers.{is_full}
 use Rattle.model.proofs.Laws.Chip.{size_facts}
 use Rattle.bridge.specs.Held.{Held, held_top}
-use Rattle.find.specs.declared.Found.{Found}
-use Rattle.find.specs.declared.Found.TheVariants.{At, Nothing}
+use Rattle.std.specs.Prelude.{Option, None, Some}
+use Rattle.std.specs.declared.option.Option.{Option}
+use Rattle.find.specs.declared.FoundSlot.{FoundSlot}
 use Rattle.find.specs.Search.{rows_at, found_in}
 use Rattle.find.proofs.Callers.{found_at, found_nothing}
 use Rattle.tally.specs.declared.Tally.{Tally}
@@ -103,21 +104,21 @@ module _ (N B : ℕ) (p : Plan) (s : Image) (k : Planned N B p s) where
 
   module _ (live b : ℕ) where
     -- what a search finds
-    abbrev there : Found
+    abbrev there : Option FoundSlot
     there = found_in N B p.first.0 (rows_at N B s p.used p.first.0) b
 
-    pub full_found : live ≡ length (entries_in (view N B s)) → (r : Found) → r ≡ found_in N B p.first.0 (rows_at N B s p.used p.first.0) b → full_by N B live r ≡ is_full N B b (view N B s)
+    pub full_found : live ≡ length (entries_in (view N B s)) → (r : Option FoundSlot) → r ≡ found_in N B p.first.0 (rows_at N B s p.used p.first.0) b → full_by N B live r ≡ is_full N B b (view N B s)
     unfolding full_by is_full
-    full_found l (At q n) e = rw (found_at N B b s v (plan_held N B p s k) k.first k.used e q n refl).held
-    full_found l Nothing e = rw (found_nothing N B b s v (plan_held N B p s k) k.first k.used e refl) (ap (leb (capacity N B)) l)
+    full_found l (Some x) e = rw (found_at N B b s v (plan_held N B p s k) k.first k.used e x refl).held
+    full_found l None e = rw (found_nothing N B b s v (plan_held N B p s k) k.first k.used e refl) (ap (leb (capacity N B)) l)
 
     -- where the search is left out, its result would not have mattered
     pub full_before_lem : full_by N B live (found_before N B p live s b) ≡ full_by N B live there
     unfolding full_by found_before
     full_before_lem = go (ltb p.slot B) (leb (capacity N B) live) refl there
       where
-        go : (x y : Bool) → leb (capacity N B) live ≡ y → (r : Found) → full_by N B live (cond (x || y) r Nothing) ≡ full_by N B live r
+        go : (x y : Bool) → leb (capacity N B) live ≡ y → (r : Option FoundSlot) → full_by N B live (cond (x || y) r None) ≡ full_by N B live r
         go true y e r = refl
         go false true e r = refl
-        go false false e (At q n) = e
-        go false false e Nothing = refl
+        go false false e (Some x) = e
+        go false false e None = refl

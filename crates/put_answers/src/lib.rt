@@ -7,8 +7,8 @@ ghost use Rattle.model.specs.Chip.{most_segments, most_slots};
 ghost use Rattle.flash.specs.Pages.{Sized};
 ghost use Rattle.put_answers.specs.Answering.{Ranged, new_numbers_by, worn_by, full_by, answer_for, found_before};
 
-use find::Found;
-use model::{Answer, BlockNumber, ERASE_LIMIT, SegmentNumber};
+use find::FoundSlot;
+use model::{Answer, BlockNumber, ERASE_LIMIT, Geometry, SegmentNumber};
 use room::Plan;
 use tally::Tally;
 
@@ -33,72 +33,65 @@ fn new_numbers(segments: usize, plan: Plan) -> usize
 
 // Whether room for a put would wear the chip: a new header is needed, and the top's has no bit left, or the erases by number
 // and by the tally reach the limit. It is found out before the first step.
-pub fn is_worn(segments: usize, slots: usize, plan: Plan, tally: Tally) -> bool
-    requires { Ranged segments slots plan × (plan.first.0 + plan.used ≤ 4294967296) × (tally.count < 4294969344) }
-    ensures { result ≡ worn_by segments slots plan tally }
+pub fn is_worn(geometry: Geometry, plan: Plan, tally: Tally) -> bool
+    requires { Ranged geometry.segments geometry.slots plan × (plan.first.0 + plan.used ≤ 4294967296) × (tally.count < 4294969344) }
+    ensures { result ≡ worn_by geometry.segments geometry.slots plan tally }
 {
-    if plan.slot < slots {
+    if plan.slot < geometry.slots {
         return false;
     }
     if tally.no_bit_left {
         return true;
     }
     let top = top_number(plan);
-    let number = top.0 as usize + new_numbers(segments, plan);
-    ERASE_LIMIT <= number / segments + tally.count
+    let number = top.0 as usize + new_numbers(geometry.segments, plan);
+    ERASE_LIMIT <= number / geometry.segments + tally.count
 }
 
 // Whether a put of a block that is not stored finds as many slots live as may be.
 #[tactic(auto, unfolding(crate::specs::Answering::full_by))]
-fn is_full(segments: usize, slots: usize, live: usize, found: Found) -> bool
-    requires { (2 ≤ segments) × (segments ≤ most_segments) × (2 ≤ slots) × (slots ≤ most_slots) }
-    ensures { result ≡ full_by segments slots live found }
+fn is_full(geometry: Geometry, live: usize, found: Option<FoundSlot>) -> bool
+    requires { (2 ≤ geometry.segments) × (geometry.segments ≤ most_segments) × (2 ≤ geometry.slots) × (geometry.slots ≤ most_slots) }
+    ensures { result ≡ full_by geometry.segments geometry.slots live found }
 {
-    let Found::Nothing = found else {
-        return false;
-    };
-    request::capacity(segments, slots) <= live
+    found.is_none() && request::capacity(geometry.segments, geometry.slots) <= live
 }
 
 // Where a block's slot is, if it has to be known before room is made: where nothing will move, or where the answer turns on
-// it. Else a pass over all slots is saved. `Found::Nothing` is harmless there: below capacity the answer does not turn on
+// it. Else a pass over all slots is saved. `None` is harmless there: below capacity the answer does not turn on
 // it, and `put::old_slot` searches once room was made.
 #[tactic(auto, unfolding(crate::specs::Answering::found_before))]
 pub fn slot_before(
     image: &[u8],
-    segments: usize,
-    slots: usize,
+    geometry: Geometry,
     plan: Plan,
     live: usize,
     block: BlockNumber,
-) -> Found
-    requires { Ranged segments slots plan × Sized segments slots (length image.now) × (plan.first.0 + plan.used ≤ 4294967296) }
-    ensures { result ≡ found_before segments slots plan live image.now block.0 }
+) -> Option<FoundSlot>
+    requires { Ranged geometry.segments geometry.slots plan × Sized geometry.segments geometry.slots (length image.now) × (plan.first.0 + plan.used ≤ 4294967296) }
+    ensures { result ≡ found_before geometry.segments geometry.slots plan live image.now block.0 }
 {
-    if slots <= plan.slot {
-        if live < request::capacity(segments, slots) {
-            return Found::Nothing;
-        }
+    if geometry.slots <= plan.slot && live < request::capacity(geometry.segments, geometry.slots) {
+        return None;
     }
-    find::find(image, segments, slots, plan.first, plan.used, block)
+    find::find(image, geometry, plan.first, plan.used, block)
 }
 
 // The answer of a put on a clean image of version 2, but for a cut.
 pub fn put_answer(
-    segments: usize,
-    slots: usize,
+    geometry: Geometry,
     plan: Plan,
     live: usize,
     tally: Tally,
-    found: Found,
+    found: Option<FoundSlot>,
 ) -> Answer
-    requires { Ranged segments slots plan × (plan.first.0 + plan.used ≤ 4294967296) × (tally.count < 4294969344) }
-    ensures { result ≡ answer_for segments slots plan live tally found }
+    requires { Ranged geometry.segments geometry.slots plan × (plan.first.0 + plan.used ≤ 4294967296) × (tally.count < 4294969344) }
+    ensures { result ≡ answer_for geometry.segments geometry.slots plan live tally found }
 {
-    if is_full(segments, slots, live, found) {
+    if is_full(geometry, live, found) {
         return Answer::Full;
     }
-    if is_worn(segments, slots, plan, tally) {
+    if is_worn(geometry, plan, tally) {
         return Answer::Worn;
     }
     Answer::Done

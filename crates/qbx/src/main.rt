@@ -3,15 +3,12 @@
 // share-get or share-delete a file of shares, a tenant and a block follow: the block is put, read or deleted for the tenant.
 #![tactic(auto)]
 
-ghost use Rattle.std.specs.Prelude.{◌≤◌, length};
-ghost use Rattle.io.specs.Counts.{IsPrefixLen};
+ghost use Rattle.std.specs.Prelude.{◌≤◌, length, IfSome};
 
-use qbx_files::Filled;
-use qbx_move_words::MoveReading;
-use qbx_share_words::{ShareCommand, ShareReading, ShareVerb};
-use qbx_system::{ENAMETOOLONG, STDERR_FILENO, STDOUT_FILENO, System};
+use qbx_share_words::{ShareCommand, ShareVerb};
+use qbx_system::{STDERR_FILENO, STDOUT_FILENO, System};
 use qbx_verbs::Verb;
-use qbx_words::{Command, Reading};
+use qbx_words::Command;
 
 // How a command is written.
 fn show_forms(fd: i32) {
@@ -73,39 +70,23 @@ fn usage(fd: i32) {
     show_rules(fd);
 }
 
-// A word of the command line. Of one that is too long the start is given, with dots, so that it means nothing.
-fn word(system: &mut System, i: usize, buf: &mut [u8; 64]) -> usize
-    ensures { IsPrefixLen result buf.new }
-{
-    let n = system.arg(i, buf);
-    if system.reason() == ENAMETOOLONG {
-        buf[61] = b'.';
-        buf[62] = b'.';
-        buf[63] = b'.';
-        return io::count(64, buf);
-    }
-    n
-}
-
 // The contents to put are on standard input. A byte more than fits is read, so that too many are seen.
-fn read_contents(system: &mut System, contents: &mut [u8]) -> Filled
-    ensures { result.count ≤ length contents.new }
+fn read_contents(system: &mut System, contents: &mut [u8]) -> Option<usize>
+    ensures { IfSome result (λ n. n ≤ length contents.new) }
 {
     let mut input = system.stdin();
-    let filled = qbx_files::fill(system, &mut input, contents);
-    if !filled.whole {
+    let Ok(n) = qbx_files::fill(system, &mut input, contents) else {
         io::write_all(STDERR_FILENO, b"qbx: cannot read standard input\n");
-    }
-    filled
+        return None;
+    };
+    Some(n)
 }
 
 fn put(system: &mut System, path: &[u8], command: Command) {
     let mut contents = [0u8; 249];
-    let filled = read_contents(system, &mut contents);
-    if !filled.whole {
+    let Some(n) = read_contents(system, &mut contents) else {
         return;
-    }
-    let n = filled.count;
+    };
     qbx_buffers::obey(
         system,
         path,
@@ -126,71 +107,45 @@ fn obey(system: &mut System, path: &[u8], command: Command) {
 }
 
 fn read_words(system: &mut System, path: &[u8]) {
-    let mut segments = [0u8; 64];
-    let a = word(system, 2, &mut segments);
-    let mut slots = [0u8; 64];
-    let b = word(system, 3, &mut slots);
-    let mut verb = [0u8; 64];
-    let c = word(system, 4, &mut verb);
-    let mut first = [0u8; 64];
-    let d = word(system, 5, &mut first);
-    let mut second = [0u8; 64];
-    let e = word(system, 6, &mut second);
-    let mut third = [0u8; 64];
-    let f = word(system, 7, &mut third);
     let reading = qbx_words::command_of(
-        &segments[..a],
-        &slots[..b],
-        &verb[..c],
-        &first[..d],
-        &second[..e],
-        &third[..f],
+        system.word(2, &mut [0u8; 64]),
+        system.word(3, &mut [0u8; 64]),
+        system.word(4, &mut [0u8; 64]),
+        system.word(5, &mut [0u8; 64]),
+        system.word(6, &mut [0u8; 64]),
+        system.word(7, &mut [0u8; 64]),
     );
     match reading {
-        Reading::Right(command) => obey(system, path, command),
-        Reading::Wrong(complaint) => qbx_out::complain(complaint, STDERR_FILENO),
+        Ok(command) => obey(system, path, command),
+        Err(complaint) => qbx_out::complain(complaint, STDERR_FILENO),
     }
 }
 
 // The words of a move or a rebuild.
 fn read_move(system: &mut System, path: &[u8], verb: &[u8], target: &[u8]) {
-    let mut segments = [0u8; 64];
-    let a = word(system, 2, &mut segments);
-    let mut slots = [0u8; 64];
-    let b = word(system, 3, &mut slots);
-    let mut target_segments = [0u8; 64];
-    let c = word(system, 6, &mut target_segments);
-    let mut target_slots = [0u8; 64];
-    let d = word(system, 7, &mut target_slots);
-    let mut option = [0u8; 64];
-    let e = word(system, 8, &mut option);
-    let mut steps = [0u8; 64];
-    let f = word(system, 9, &mut steps);
     let reading = qbx_move_words::move_of(
-        &segments[..a],
-        &slots[..b],
+        system.word(2, &mut [0u8; 64]),
+        system.word(3, &mut [0u8; 64]),
         verb,
         target,
-        &target_segments[..c],
-        &target_slots[..d],
-        &option[..e],
-        &steps[..f],
+        system.word(6, &mut [0u8; 64]),
+        system.word(7, &mut [0u8; 64]),
+        system.word(8, &mut [0u8; 64]),
+        system.word(9, &mut [0u8; 64]),
     );
     match reading {
-        MoveReading::Right(command) => {
+        Ok(command) => {
             qbx_move_buffers::obey(system, path, target, command, STDOUT_FILENO, STDERR_FILENO);
         }
-        MoveReading::Wrong(complaint) => qbx_out::complain(complaint, STDERR_FILENO),
+        Err(complaint) => qbx_out::complain(complaint, STDERR_FILENO),
     }
 }
 
 fn share_put(system: &mut System, path: &[u8], shares: &[u8], command: ShareCommand) {
     let mut contents = [0u8; 249];
-    let filled = read_contents(system, &mut contents);
-    if !filled.whole {
+    let Some(n) = read_contents(system, &mut contents) else {
         return;
-    }
-    let n = filled.count;
+    };
     qbx_share_buffers::obey(
         system,
         path,
@@ -221,43 +176,35 @@ fn share(system: &mut System, path: &[u8], shares: &[u8], command: ShareCommand)
 
 // The words of a tenant's command.
 fn read_share(system: &mut System, path: &[u8], verb: &[u8], shares: &[u8]) {
-    let mut segments = [0u8; 64];
-    let a = word(system, 2, &mut segments);
-    let mut slots = [0u8; 64];
-    let b = word(system, 3, &mut slots);
-    let mut tenant = [0u8; 64];
-    let c = word(system, 6, &mut tenant);
-    let mut block = [0u8; 64];
-    let d = word(system, 7, &mut block);
     let reading = qbx_share_words::share_of(
-        &segments[..a],
-        &slots[..b],
+        system.word(2, &mut [0u8; 64]),
+        system.word(3, &mut [0u8; 64]),
         verb,
         shares,
-        &tenant[..c],
-        &block[..d],
+        system.word(6, &mut [0u8; 64]),
+        system.word(7, &mut [0u8; 64]),
     );
     match reading {
-        ShareReading::Right(command) => share(system, path, shares, command),
-        ShareReading::Wrong(complaint) => qbx_out::complain(complaint, STDERR_FILENO),
+        Ok(command) => share(system, path, shares, command),
+        Err(complaint) => qbx_out::complain(complaint, STDERR_FILENO),
     }
 }
 
 // A command by its verb. A path follows some: a move's and a rebuild's, which have more words than any other, and a tenant's.
 fn read(system: &mut System, path: &[u8], words: usize) {
     let mut verb = [0u8; 64];
-    let n = word(system, 4, &mut verb);
-    if qbx_move_words::names_target(&verb[..n]) {
+    let verb = system.word(4, &mut verb);
+    if qbx_move_words::names_target(verb) {
         if words > 10 {
             usage(STDERR_FILENO);
             return;
         }
         let mut target = io::buffer();
         let m = system.arg(5, &mut target);
-        read_move(system, path, &verb[..n], &target[..m]);
+        read_move(system, path, verb, &target[..m]);
         return;
     }
-    if qbx_share_words::names_shares(&verb[..n]) {
+    if qbx_share_words::share_verb_of(verb).is_some() {
         if words > 8 {
             io::write_all(
                 STDERR_FILENO,
@@ -267,7 +214,7 @@ fn read(system: &mut System, path: &[u8], words: usize) {
         }
         let mut shares = io::buffer();
         let m = system.arg(5, &mut shares);
-        read_share(system, path, &verb[..n], &shares[..m]);
+        read_share(system, path, verb, &shares[..m]);
         return;
     }
     if words > 8 {

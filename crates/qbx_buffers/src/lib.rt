@@ -1,63 +1,11 @@
 // A command on its image in the smallest of three buffers that holds it, each with its own limit of the stack.
 #![tactic(auto)]
 
-ghost use Rattle.std.specs.Prelude.{◌≡◌, true, leb};
-ghost use Rattle.request.specs.Request.{size_of};
-ghost use Rattle.qbx_rooms.specs.Rooms.{room_of};
+ghost use Rattle.std.specs.Prelude.{◌≡◌, true};
 
-use qbx_rooms::Process;
+use qbx_rooms::{Buffer, Process};
 use qbx_system::System;
 use qbx_words::Command;
-
-// Obeys a command in the first buffer that holds its image, up to the given one, or tells that the stack is too small for
-// that buffer; whether there is one.
-//
-// It calls itself, and not as the last thing it does, for the compiler's sake: what is small it makes part of its caller, but
-// nothing with large locals part of a function that calls itself. So each buffer stays in a frame of its own, and a small image
-// does not need a large one's stack, nor a command that prints no text that of one that does.
-fn within(
-    system: &mut System,
-    last: u8,
-    process: Process,
-    path: &[u8],
-    command: Command,
-    contents: &[u8],
-) -> bool
-    ensures { result ≡ leb (size_of command.segments command.slots) (room_of last) }
-{
-    if last > 0 {
-        if within(system, last - 1, process, path, command, contents) {
-            return true;
-        }
-    }
-    let size = request::size_of(command.segments as usize, command.slots as usize);
-    if size > qbx_rooms::room_of(last) {
-        return false;
-    }
-    let verb = command.verb;
-    let prints = qbx_verbs::prints(verb);
-    let needed = qbx_rooms::lacking(last, prints, process.allowed);
-    if needed > 0 {
-        qbx_out::lack_stack(size, needed, process.allowed, process.err);
-        return true;
-    }
-    if prints {
-        if last == 0 {
-            return qbx_frames::small_text(system, process, path, command);
-        }
-        if last == 1 {
-            return qbx_frames::middle_text(system, process, path, command);
-        }
-        return qbx_frames::large_text(system, process, path, command);
-    }
-    if last == 0 {
-        return qbx_frames::small(system, process, path, command, contents);
-    }
-    if last == 1 {
-        return qbx_frames::middle(system, process, path, command, contents);
-    }
-    qbx_frames::large(system, process, path, command, contents)
-}
 
 // A command on the image's file, or that the stack is too small for its image: one of the two, always. What it says goes to the
 // one descriptor, and what is wrong to the other.
@@ -73,5 +21,23 @@ pub fn obey(
 {
     let allowed = qbx_stack::allowed(system) / 1024;
     let process = Process { allowed, out, err };
-    within(system, 2, process, path, command, contents)
+    let size = request::size_of(command.segments as usize, command.slots as usize);
+    let buffer = qbx_rooms::smallest_for(size);
+    let prints = qbx_verbs::prints(command.verb);
+    if let Some(needed) = qbx_rooms::lacking(buffer, prints, allowed) {
+        qbx_out::lack_stack(size, needed, allowed, err);
+        return true;
+    }
+    if prints {
+        return match buffer {
+            Buffer::Small => qbx_frames::show::<1048577, 196608>(system, process, path, command),
+            Buffer::Middle => qbx_frames::show::<4194305, 753664>(system, process, path, command),
+            Buffer::Large => qbx_frames::show::<16711681, 2949120>(system, process, path, command),
+        };
+    }
+    match buffer {
+        Buffer::Small => qbx_frames::obey::<1048577>(system, process, path, command, contents),
+        Buffer::Middle => qbx_frames::obey::<4194305>(system, process, path, command, contents),
+        Buffer::Large => qbx_frames::obey::<16711681>(system, process, path, command, contents),
+    }
 }

@@ -16,8 +16,8 @@ use Rattle.model.proofs.Laws.Segments.{segments_length}
 use Rattle.model.specs.declared.SegmentNumber.{SegmentNumber}
 use Rattle.model.specs.declared.SlotKind.{SlotKind}
 use Rattle.model.specs.declared.SlotKind.TheVariants.{Empty, Torn, Live, Dead, Cut, Wrong}
-use Rattle.header_seen.specs.declared.HeaderSeen.{HeaderSeen}
-use Rattle.header_seen.specs.declared.HeaderSeen.TheVariants.{InUse, NotInUse}
+use Rattle.std.specs.Prelude.{Option, Some, None}
+use Rattle.header_seen.specs.declared.HeaderInUse.{HeaderInUse}
 use Rattle.header_seen.specs.Seen.{header_seen}
 use Rattle.judge.specs.Rows.{kinds_at, slots_at}
 use Rattle.judge.specs.Parts.{header_offset, slots_offset, segment_seen, segment_seen_lem}
@@ -51,7 +51,7 @@ slots_end m o i slots c h = let d : slots - i ≡ 0 = omega arith in rw d
 
 -- ---- segments
 
-module _ (N B i : ℕ) (s : Image) (h : i < N) (r : HeaderSeen)
+module _ (N B i : ℕ) (s : Image) (h : i < N) (r : Option HeaderInUse)
     (e : r ≡ header_seen N B i (take (header_offset B i + 256 - header_offset B i) (drop (header_offset B i) s))) where
   hd : Page
   hd = take 256 (drop (header_offset B i) s)
@@ -62,22 +62,22 @@ module _ (N B i : ℕ) (s : Image) (h : i < N) (r : HeaderSeen)
   seen : r ≡ header_seen N B i (take 256 (drop (header_offset B i) s))
   seen = e ∙ ap (header_seen N B i) (page_part s (header_offset B i))
 
-  pub segment_unused : (c : Census) → r ≡ NotInUse → c ≡ count_segment c (get_or (segments_of N B s) i blank)
+  pub segment_unused : (c : Census) → r ≡ None → c ≡ count_segment c (get_or (segments_of N B s) i blank)
   unfolding hd bs header_seen segment_seen count_segment
   segment_unused c q = go (header_in_use N B i hd) (is_blank bs) (sym seen ∙ q) ∙ ap (count_segment c) (sym (segment_seen_lem N B i s h)) where
-    go : (a t : Bool) → cond a (InUse (is_former (header_version hd)) (header_status hd) (record { 0 = header_number hd })) NotInUse ≡ NotInUse
+    go : (a t : Bool) → cond {A = Option HeaderInUse} a (Some (record { former = is_former (header_version hd); status = header_status hd; number = record { 0 = header_number hd } })) None ≡ None
         → c ≡ count_segment c (cond a (in_use (header_version hd) (header_status hd) (header_number hd) (slots_at s (slots_offset B i) B)) (cond t blank invalid))
     go true t w = absurd (let z : ◌≡◌ {A = ℕ} 0 1 = cc in omega arith)
     go false true w = refl
     go false false w = refl
 
-  pub segment_used : (c : Census) (f : Bool) (st : ℕ) (n : SegmentNumber) → r ≡ InUse f st n
+  pub segment_used : (c : Census) (x : HeaderInUse) → r ≡ Some x
       → count_kinds (one_more c) (kinds_at s (header_offset B i + 256) B) ≡ count_segment c (get_or (segments_of N B s) i blank)
   unfolding hd bs header_seen segment_seen count_segment kinds_at
-  segment_used c f st n q =
+  segment_used c x q =
       let o : header_offset B i + 256 ≡ slots_offset B i = omega arith in
       ap (λ (k : ℕ). count_kinds (one_more c) (kinds_at s k B)) o ∙ (go (header_in_use N B i hd) (is_blank bs) (sym seen ∙ q) ∙ ap (count_segment c) (sym (segment_seen_lem N B i s h))) where
-        go : (a t : Bool) → cond a (InUse (is_former (header_version hd)) (header_status hd) (record { 0 = header_number hd })) NotInUse ≡ InUse f st n
+        go : (a t : Bool) → cond {A = Option HeaderInUse} a (Some (record { former = is_former (header_version hd); status = header_status hd; number = record { 0 = header_number hd } })) None ≡ Some x
             → count_kinds (one_more c) (kinds_at s (slots_offset B i) B) ≡ count_segment c (cond a (in_use (header_version hd) (header_status hd) (header_number hd) (slots_at s (slots_offset B i) B)) (cond t blank invalid))
         go true t w = refl
         go false t w = absurd (let z : ◌≡◌ {A = ℕ} 0 1 = cc in omega arith)

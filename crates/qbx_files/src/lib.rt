@@ -1,7 +1,7 @@
 // A file read, and replaced whole or not at all.
 #![tactic(auto)]
 
-ghost use Rattle.std.specs.Prelude.{◌≡◌, ◌+◌, ◌≤◌, length, take};
+ghost use Rattle.std.specs.Prelude.{◌≡◌, ◌≤◌, length, take, MatchResult};
 ghost use Rattle.io.specs.Counts.{IsPrefixLen};
 ghost use Rattle.qbx_files.specs.Files.{beside_of, larger_of};
 
@@ -9,68 +9,34 @@ use qbx_system::System;
 use std::fs::File;
 use std::io::{Read, Seek, SeekFrom};
 
-// What was read: how many bytes, and whether that is all there is or the buffer is full.
-#[derive(Clone, Copy)]
-pub struct Filled {
-    pub count: usize,
-    pub whole: bool,
-}
-
-// Reads once into a buffer, from a place in it on: no bytes at the end of the input.
-fn read_at<R: Read>(system: &mut System, source: &mut R, buf: &mut [u8], at: usize) -> Filled
-    requires { at ≤ length buf.old }
-    ensures { at + result.count ≤ length buf.new }
+// Reads until the buffer is full or the input ends: how many bytes. A failure is told from the end, with those read before it, and the
+// system's reason stays to be told.
+pub fn fill<R: Read>(system: &mut System, source: &mut R, buf: &mut [u8]) -> Result<usize, usize>
+    ensures { MatchResult result (λ n. n ≤ length buf.new) (λ n. n ≤ length buf.new) }
 {
-    match source.read(&mut buf[at..]) {
-        Ok(count) => Filled { count, whole: true },
-        Err(error) => {
-            system.take(error);
-            Filled {
-                count: 0,
-                whole: false,
+    let mut at = 0;
+    // Kept: each turn goes on by as many bytes as the system gave, which no range or iterator tells.
+    while at < buf.len() {
+        match source.read(&mut buf[at..]) {
+            Ok(0) => break,
+            Ok(count) => at += count,
+            Err(error) => {
+                system.take(error);
+                return Err(at);
             }
         }
     }
-}
-
-// Reads until the buffer is full or the input ends; tells the end from a failure.
-pub fn fill<R: Read>(system: &mut System, source: &mut R, buf: &mut [u8]) -> Filled
-    ensures { result.count ≤ length buf.new }
-{
-    let mut at = 0;
-    while at < buf.len() {
-        let got = read_at(system, source, buf, at);
-        if !got.whole {
-            return Filled {
-                count: at,
-                whole: false,
-            };
-        }
-        if got.count == 0 {
-            return Filled {
-                count: at,
-                whole: true,
-            };
-        }
-        at += got.count;
-    }
-    Filled {
-        count: at,
-        whole: true,
-    }
+    Ok(at)
 }
 
 // The larger of an offset in a file and a count of its bytes.
 fn larger(offset: i64, count: u64) -> u64
     ensures { result ≡ larger_of offset count }
 {
-    if offset > 0 {
-        let length = offset as u64;
-        if count < length {
-            return length;
-        }
+    match u64::try_from(offset) {
+        Ok(length) => length.max(count),
+        Err(_) => count,
     }
-    count
 }
 
 // How many bytes a file has, where the system tells its end; those that were read, where it does not.

@@ -1,22 +1,20 @@
--- An image filled, how long it is then, and a part of one.
+-- How long an image is that is made, and a part of one.
 use Prim.Native.Nat.{ℕ, ◌+◌, ◌-◌, ◌<◌, ◌≤◌}
-use mathlib.Core.Path.{◌≡◌, sym, ◌∙◌, ap}
+use mathlib.Core.Path.{◌≡◌, sym, ◌∙◌}
 use mathlib.Core.Bool.{Bool, true, false}
-use mathlib.Core.List.{List, [], ◌++◌, append-nil}
+use mathlib.Core.List.{List, []}
 use native.Mathlib.Omega.{arith}
 use lib.ListN.{length, take, drop, replicate, length-append, length-drop, length-replicate, drop_of_length-le}
 use lib.Seq.{take_all, take-nil}
+use Rattle.std.specs.Prelude.{IfSome}
 use Rattle.qbx_images.specs.Images.{made, factory}
-
--- filled up to the end
-pub filled : (s : List ℕ) (i : ℕ) → i ≡ length s → replicate i 255 ++ drop i s ≡ replicate (length s) 255
-filled s i e = let l : length s ≤ i = omega arith in rw (drop_of_length-le s l, append-nil) (ap (λ (k : ℕ). replicate k 255) e)
+use Rattle.qbx_images.specs.declared.ImageFile.{ImageFile}
 
 -- a file that is made lies within the buffer
-pub made_within : (t : Bool) (size : ℕ) (s : List ℕ) → size ≤ length s → (made t size).count ≤ length (factory t size s)
+pub made_within : (t : Bool) (size : ℕ) (s : List ℕ) → size ≤ length s → IfSome (made t size) (λ (f : ImageFile). f.count ≤ length (factory t size s))
 unfolding made factory
 made_within true size s h = omega (arith, length-append (replicate size 255) (drop size s), length-replicate {A = ℕ} size 255)
-made_within false size s h = omega arith
+made_within false size s h = tt
 
 -- a part of an image
 pub piece_none : (s : List ℕ) (at count : ℕ) → length s < at → [] ≡ take count (drop at s)

@@ -1,11 +1,11 @@
 -- An image's file that is not there.
-use Rattle.std.specs.Prelude.{ℕ, Bool, true, false, List, ◌++◌, drop, replicate}
+use Rattle.std.specs.Prelude.{ℕ, Bool, true, false, List, ◌++◌, drop, replicate, Option, Some, None}
 use Rattle.qbx_images.specs.declared.ImageFile.{ImageFile}
 
 -- what is told of it: where it may be made, it has so many bytes
-unfoldable pub made : Bool → ℕ → ImageFile
-made true size = record { count = size; whole = true; there = 0 }
-made false size = record { count = 0; whole = false; there = 0 }
+unfoldable pub made : Bool → ℕ → Option ImageFile
+made true size = Some (record { count = size; there = 0 })
+made false size = None
 
 -- what the buffer then holds: a chip from the factory of so many bytes
 unfoldable pub factory : Bool → ℕ → List ℕ → List ℕ

@@ -1,16 +1,15 @@
 // An image's file read into a buffer, and a part of an image.
 #![tactic(auto)]
 
-ghost use Rattle.std.specs.Prelude.{◌≡◌, ◌≤◌, length, take, drop, replicate};
+ghost use Rattle.std.specs.Prelude.{◌≡◌, ◌≤◌, length, take, drop, IfSome};
 ghost use Rattle.qbx_images.specs.Images.{made, factory};
 
 use qbx_system::{ENOENT, System};
 
-// The file in the first bytes of the buffer: how many, whether they could be had, and how many the file has.
+// The file in the first bytes of the buffer: how many, and how many the file has.
 #[derive(Clone, Copy)]
 pub struct ImageFile {
     pub count: usize,
-    pub whole: bool,
     pub there: u64,
 }
 
@@ -22,59 +21,32 @@ pub fn present(
     path: &[u8],
     size: usize,
     makes: bool,
-) -> ImageFile
+) -> Option<ImageFile>
     requires { size ≤ length image.old }
-    ensures { result.count ≤ length image.new }
+    ensures { IfSome result (λ file. file.count ≤ length image.new) }
 {
     let Some(mut file) = system.open_read(path) else {
         let is_missing = system.reason() == ENOENT;
         return absent(image, size, makes && is_missing);
     };
-    let filled = qbx_files::fill(system, &mut file, image);
-    if !filled.whole {
-        return ImageFile {
-            count: 0,
-            whole: false,
-            there: 0,
-        };
-    }
-    let there = qbx_files::length_of(&mut file, filled.count);
-    ImageFile {
-        count: filled.count,
-        whole: true,
-        there,
-    }
+    let count = qbx_files::fill(system, &mut file, image).ok()?;
+    let there = qbx_files::length_of(&mut file, count);
+    Some(ImageFile { count, there })
 }
 
 // The file could not be opened; where it may be made, the chip is as it left the factory.
-fn absent(image: &mut [u8], size: usize, makes: bool) -> ImageFile
+fn absent(image: &mut [u8], size: usize, makes: bool) -> Option<ImageFile>
     requires { size ≤ length image.old }
     ensures { (result ≡ made makes size) × (image.new ≡ factory makes size image.old) }
 {
-    if makes {
-        blank(&mut image[..size]);
-        return ImageFile {
-            count: size,
-            whole: true,
-            there: 0,
-        };
+    if !makes {
+        return None;
     }
-    ImageFile {
-        count: 0,
-        whole: false,
+    image[..size].fill(255);
+    Some(ImageFile {
+        count: size,
         there: 0,
-    }
-}
-
-// A chip from the factory.
-fn blank(image: &mut [u8])
-    ensures { image.new ≡ replicate (length image.old) 255 }
-{
-    let mut i = 0;
-    while i < image.len() {
-        image[i] = 255;
-        i += 1;
-    }
+    })
 }
 
 // A part of an image, as far as the image goes.

@@ -9,6 +9,7 @@ ghost use Rattle.text.specs.Decimal.{decimal};
 pub const MOST_LINE: usize = 240;
 
 // A line that is being put together.
+// Kept: an array and its length, and no `Vec`, `String` or `Display`: a project rule (no heap, fixed memory) needs it.
 #[derive(Drop)]
 pub struct Line {
     pub bytes: [u8; MOST_LINE],
@@ -30,17 +31,10 @@ pub fn add(line: Line, text: &[u8]) -> Line
     requires { line.count + length text.now ≤ most_line }
     ensures { Added line text.now result }
 {
-    let at = line.count;
     let mut bytes = line.bytes;
-    let mut i = 0;
-    while i < text.len() {
-        bytes[at + i] = text[i];
-        i += 1;
-    }
-    Line {
-        bytes,
-        count: at + i,
-    }
+    let end = line.count + text.len();
+    bytes[line.count..end].copy_from_slice(text);
+    Line { bytes, count: end }
 }
 
 // A number at the end of a line.

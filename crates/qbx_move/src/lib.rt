@@ -77,23 +77,17 @@ fn carry(
     requires { (size_of command.source.segments command.source.slots < length source.old) × (size_of command.target.segments command.target.slots < length target.old) }
 {
     let from = command.source;
-    let file = qbx_images::present(system, source, path, qbx_move_words::size_of(from), false);
-    if !file.whole {
+    let size = qbx_move_words::size_of(from);
+    let Some(file) = qbx_images::present(system, source, path, size, false) else {
         fail(system, err, b"read ", path);
         return;
-    }
+    };
     let to = command.target;
-    let other = qbx_images::present(
-        system,
-        target,
-        target_path,
-        qbx_move_words::size_of(to),
-        true,
-    );
-    if !other.whole {
+    let size = qbx_move_words::size_of(to);
+    let Some(other) = qbx_images::present(system, target, target_path, size, true) else {
         fail(system, err, b"read ", target_path);
         return;
-    }
+    };
     let there = There {
         source: file.there,
         target: other.there,

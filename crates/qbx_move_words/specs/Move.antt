@@ -1,18 +1,14 @@
 -- The words of a move, read: N B move TARGET N B [--budget STEPS], or with the verb rebuild. A word that is missing is empty.
-use Rattle.std.specs.Prelude.{ℕ, max, Bool, cond, ◌||◌, List}
+use Rattle.std.specs.Prelude.{ℕ, max, Bool, cond, ◌||◌, List, Result, Ok, Err}
 use Rattle.model.specs.Lists.{same}
 use Rattle.request.specs.Request.{size_of}
 use Rattle.text.specs.Text.{text}
-use Rattle.qbx_numbers.specs.Number.{number_of}
-use Rattle.qbx_numbers.specs.declared.Parsed.{Parsed}
-use Rattle.qbx_numbers.specs.declared.Parsed.TheVariants.{Number, NoNumber}
+use Rattle.qbx_numbers.specs.Number.{number_of, as_number}
 use Rattle.qbx_words.specs.Command.{is_missing}
 use Rattle.qbx_words.specs.declared.Complaint.{Complaint}
 use Rattle.qbx_words.specs.declared.Complaint.TheVariants.{Segments, Slots, NoTarget, TargetSegments, TargetSlots, NoOption, Budget}
 use Rattle.qbx_move_words.specs.declared.Geometry.{Geometry}
 use Rattle.qbx_move_words.specs.declared.Move.{Move}
-use Rattle.qbx_move_words.specs.declared.MoveReading.{MoveReading}
-use Rattle.qbx_move_words.specs.declared.MoveReading.TheVariants.{Right, Wrong}
 
 unfoldable pub is_rebuild : List ℕ → Bool
 is_rebuild w = same w (text "rebuild")
@@ -20,19 +16,18 @@ is_rebuild w = same w (text "rebuild")
 unfoldable pub names_target : List ℕ → Bool
 names_target w = same w (text "move") || is_rebuild w
 
--- a word that is to be a number
-unfoldable pub as_number : Parsed → Complaint → (ℕ → MoveReading) → MoveReading
-as_number (Number n) x go = go n
-as_number NoNumber x go = Wrong x
+-- a move, or the word that is wrong
+abbrev pub MoveReading : Type 0
+MoveReading = Result Move Complaint
 
 abbrev pub budgeted : Move → ℕ → Move
 budgeted k n = record { salvages = k.salvages; source = k.source; target = k.target; budget = n }
 
 unfoldable pub with_budget : Move → List ℕ → List ℕ → MoveReading
 with_budget k option steps =
-    cond (is_missing option) (Right k)
-    (cond (same option (text "--budget")) (as_number (number_of steps) Budget (λ n. Right (budgeted k n)))
-    (Wrong NoOption))
+    cond (is_missing option) (Ok k)
+    (cond (same option (text "--budget")) (as_number (number_of steps) Budget (λ n. Ok (budgeted k n)))
+    (Err NoOption))
 
 -- with as many steps as 64 bits can count
 abbrev pub plain : Bool → Geometry → Geometry → Move
@@ -50,7 +45,7 @@ onto r g n b option steps =
 unfoldable pub move_of : List ℕ → List ℕ → List ℕ → List ℕ → List ℕ → List ℕ → List ℕ → List ℕ → MoveReading
 move_of n b verb target m c option steps =
     as_number (number_of n) Segments (λ N. as_number (number_of b) Slots (λ B.
-    cond (is_missing target) (Wrong NoTarget) (onto (is_rebuild verb) (geometry N B) m c option steps)))
+    cond (is_missing target) (Err NoTarget) (onto (is_rebuild verb) (geometry N B) m c option steps)))
 
 -- the bytes of the larger image
 unfoldable pub larger_size : Move → ℕ

@@ -6,7 +6,7 @@ ghost use Rattle.std.specs.Prelude.{◌≡◌};
 ghost use Rattle.request.specs.Request.{size_of};
 ghost use Rattle.qbx_move_words.specs.Move.{names_target, with_budget, onto, move_of, larger_size};
 
-use qbx_numbers::{Parsed, number};
+use qbx_numbers::number;
 use qbx_words::{Complaint, is, is_missing};
 
 // N and B of an image.
@@ -25,49 +25,31 @@ pub struct Move {
     pub budget: u64,
 }
 
-#[derive(Clone, Copy)]
-pub enum MoveReading {
-    Right(Move),
-    Wrong(Complaint),
-}
-
 // Whether a verb is that of a move or a rebuild. It is no command's: another image follows it.
+#[tactic(auto, unfolding(crate::specs::Move::names_target, crate::specs::Move::is_rebuild, text::specs::Text::text))]
 pub fn names_target(verb: &[u8]) -> bool
     ensures { result ≡ names_target verb.now }
 {
-    if is(verb, b"move") {
-        return true;
-    }
-    is(verb, b"rebuild")
+    is(verb, b"move") || is(verb, b"rebuild")
 }
 
 // The option at the end.
-#[tactic(auto, unfolding(crate::specs::Move::with_budget, crate::specs::Move::as_number, text::specs::Text::text))]
-fn with_budget(command: Move, option: &[u8], steps: &[u8]) -> MoveReading
+#[tactic(auto, unfolding(crate::specs::Move::with_budget, qbx_numbers::specs::Number::as_number, text::specs::Text::text))]
+fn with_budget(command: Move, option: &[u8], steps: &[u8]) -> Result<Move, Complaint>
     ensures { result ≡ with_budget command option.now steps.now }
 {
     if is_missing(option) {
-        return MoveReading::Right(command);
+        return Ok(command);
     }
-    if is(option, b"--budget") {
-        let Parsed::Number(budget) = number(steps) else {
-            return MoveReading::Wrong(Complaint::Budget);
-        };
-        let salvages = command.salvages;
-        let source = command.source;
-        let target = command.target;
-        return MoveReading::Right(Move {
-            salvages,
-            source,
-            target,
-            budget,
-        });
+    if !is(option, b"--budget") {
+        return Err(Complaint::NoOption);
     }
-    MoveReading::Wrong(Complaint::NoOption)
+    let budget = number(steps).ok_or(Complaint::Budget)?;
+    Ok(Move { budget, ..command })
 }
 
 // The words after the target's name.
-#[tactic(auto, unfolding(crate::specs::Move::onto, crate::specs::Move::as_number))]
+#[tactic(auto, unfolding(crate::specs::Move::onto, qbx_numbers::specs::Number::as_number))]
 fn onto(
     salvages: bool,
     source: Geometry,
@@ -75,30 +57,22 @@ fn onto(
     slots: &[u8],
     option: &[u8],
     steps: &[u8],
-) -> MoveReading
+) -> Result<Move, Complaint>
     ensures { result ≡ onto salvages source segments.now slots.now option.now steps.now }
 {
-    let Parsed::Number(n) = number(segments) else {
-        return MoveReading::Wrong(Complaint::TargetSegments);
-    };
-    let Parsed::Number(b) = number(slots) else {
-        return MoveReading::Wrong(Complaint::TargetSlots);
-    };
-    let target = Geometry {
-        segments: n,
-        slots: b,
-    };
+    let segments = number(segments).ok_or(Complaint::TargetSegments)?;
+    let slots = number(slots).ok_or(Complaint::TargetSlots)?;
     let whole = Move {
         salvages,
         source,
-        target,
+        target: Geometry { segments, slots },
         budget: u64::MAX,
     };
     with_budget(whole, option, steps)
 }
 
 // The words after the image's name; those that are missing are empty.
-#[tactic(auto, unfolding(crate::specs::Move::move_of, crate::specs::Move::as_number, crate::specs::Move::is_rebuild, text::specs::Text::text))]
+#[tactic(auto, unfolding(crate::specs::Move::move_of, qbx_numbers::specs::Number::as_number, crate::specs::Move::is_rebuild, text::specs::Text::text))]
 pub fn move_of(
     segments: &[u8],
     slots: &[u8],
@@ -108,22 +82,16 @@ pub fn move_of(
     target_slots: &[u8],
     option: &[u8],
     steps: &[u8],
-) -> MoveReading
+) -> Result<Move, Complaint>
     ensures { result ≡ move_of segments.now slots.now verb.now target.now target_segments.now target_slots.now option.now steps.now }
 {
-    let Parsed::Number(n) = number(segments) else {
-        return MoveReading::Wrong(Complaint::Segments);
-    };
-    let Parsed::Number(b) = number(slots) else {
-        return MoveReading::Wrong(Complaint::Slots);
+    let source = Geometry {
+        segments: number(segments).ok_or(Complaint::Segments)?,
+        slots: number(slots).ok_or(Complaint::Slots)?,
     };
     if is_missing(target) {
-        return MoveReading::Wrong(Complaint::NoTarget);
+        return Err(Complaint::NoTarget);
     }
-    let source = Geometry {
-        segments: n,
-        slots: b,
-    };
     let salvages = is(verb, b"rebuild");
     onto(
         salvages,
@@ -143,15 +111,9 @@ pub fn size_of(geometry: Geometry) -> usize
 }
 
 // The bytes of the larger of a move's images.
+#[tactic(auto, unfolding(crate::specs::Move::larger_size))]
 pub fn larger_size(command: Move) -> usize
     ensures { result ≡ larger_size command }
 {
-    let source = command.source;
-    let target = command.target;
-    let a = size_of(source);
-    let b = size_of(target);
-    if a < b {
-        return b;
-    }
-    a
+    size_of(command.source).max(size_of(command.target))
 }

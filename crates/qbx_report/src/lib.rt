@@ -6,7 +6,7 @@ ghost use Rattle.model.specs.Chip.{right_size};
 ghost use Rattle.model.specs.State.{segments_of, state_of};
 ghost use Rattle.qbx_report.specs.Report.{condition_of, aside_in, top_told, report_of};
 
-use model::SegmentNumber;
+use model::{Geometry, SegmentNumber};
 use qbx_census::take_census;
 use qbx_state::{Condition, Report, TopSeen};
 use scan::Surveyed;
@@ -16,7 +16,8 @@ fn condition_of(image: &[u8], segments: usize, slots: usize) -> Condition
     requires { right_size segments slots image.now ≡ true }
     ensures { result ≡ condition_of (state_of segments slots (segments_of segments slots image.now)) }
 {
-    let surveyed = scan::survey(image, segments, slots);
+    let geometry = Geometry { segments, slots };
+    let surveyed = scan::survey(image, geometry);
     match surveyed {
         Surveyed::Clean {
             first: _,
@@ -39,10 +40,11 @@ fn left_aside(image: &[u8], segments: usize, slots: usize, condition: Condition)
     requires { right_size segments slots image.now ≡ true }
     ensures { result ≡ aside_in segments (segments_of segments slots image.now) condition }
 {
+    let geometry = Geometry { segments, slots };
     let Condition::UnfinishedB = condition else {
         return segments;
     };
-    let seen = segments::see_headers(image, segments, slots);
+    let seen = segments::see_headers(image, geometry);
     seen.next % segments
 }
 
@@ -51,12 +53,13 @@ fn see_top(image: &[u8], segments: usize, slots: usize) -> TopSeen
     requires { right_size segments slots image.now ≡ true }
     ensures { result ≡ top_told segments (segments_of segments slots image.now) }
 {
-    let seen = segments::see_headers(image, segments, slots);
+    let geometry = Geometry { segments, slots };
+    let seen = segments::see_headers(image, geometry);
     if seen.next == 0 {
         return TopSeen::Missing;
     }
     let top = SegmentNumber((seen.next - 1) as u32);
-    let told = tally::tally_in(image, segments, slots, top);
+    let told = tally::tally_in(image, geometry, top);
     if told.former {
         return TopSeen::Version1;
     }

@@ -1,8 +1,8 @@
-// The buffers for images, by number: what each holds, and the stack that it asks for.
+// The buffers for images: what each holds, and the stack that it asks for.
 #![tactic(auto)]
 
 ghost use Rattle.std.specs.Prelude.{◌≡◌, true};
-ghost use Rattle.qbx_rooms.specs.Rooms.{room_of, need_of, move_need_of, lack_of};
+ghost use Rattle.qbx_rooms.specs.Rooms.{room_of, smallest_for, need_of, move_need_of, lack_of};
 
 // What the process has: the KiB of stack that it may use, and the descriptors for what is said and for what is wrong.
 #[derive(Clone, Copy)]
@@ -12,80 +12,85 @@ pub struct Process {
     pub err: i32,
 }
 
+// A buffer, by the images that it holds.
+#[derive(Clone, Copy)]
+pub enum Buffer {
+    Small,
+    Middle,
+    Large,
+}
+
 // The bytes of the largest image that a buffer holds.
-pub fn room_of(buffer: u8) -> usize
+#[tactic(auto, unfolding(crate::specs::Rooms::room_of))]
+fn room_of(buffer: Buffer) -> usize
     ensures { result ≡ room_of buffer }
 {
-    if buffer == 0 {
-        return 1048576;
+    match buffer {
+        Buffer::Small => 1048576,
+        Buffer::Middle => 4194304,
+        Buffer::Large => 16711680,
     }
-    if buffer == 1 {
-        return 4194304;
-    }
-    16711680
 }
 
-// The KiB of stack that it asks for with a buffer for a text beside it.
-fn text_need_of(buffer: u8) -> u64
-    ensures { result ≡ need_of true buffer }
+// The smallest buffer that holds an image of so many bytes; the largest holds every image.
+pub fn smallest_for(size: usize) -> Buffer
+    ensures { result ≡ smallest_for size }
 {
-    if buffer == 0 {
-        return 2560;
+    if size <= room_of(Buffer::Small) {
+        return Buffer::Small;
     }
-    if buffer == 1 {
-        return 7168;
+    if size <= room_of(Buffer::Middle) {
+        return Buffer::Middle;
     }
-    26624
+    Buffer::Large
 }
 
-// The KiB of stack that it asks for.
-fn need_of(buffer: u8, prints: bool) -> u64
+// The KiB of stack that it asks for, with or without a buffer for a text beside it.
+#[tactic(auto, unfolding(crate::specs::Rooms::need_of))]
+fn need_of(buffer: Buffer, prints: bool) -> u64
     ensures { result ≡ need_of prints buffer }
 {
-    if prints {
-        return text_need_of(buffer);
+    match (buffer, prints) {
+        (Buffer::Small, false) => 1536,
+        (Buffer::Middle, false) => 6144,
+        (Buffer::Large, false) => 24576,
+        (Buffer::Small, true) => 2560,
+        (Buffer::Middle, true) => 7168,
+        (Buffer::Large, true) => 26624,
     }
-    if buffer == 0 {
-        return 1536;
-    }
-    if buffer == 1 {
-        return 6144;
-    }
-    24576
 }
 
 // The KiB of stack that two of it ask for, with the images of a move or a rebuild and the library's tables.
-fn move_need_of(buffer: u8) -> u64
+#[tactic(auto, unfolding(crate::specs::Rooms::move_need_of))]
+fn move_need_of(buffer: Buffer) -> u64
     ensures { result ≡ move_need_of buffer }
 {
-    if buffer == 0 {
-        return 3584;
+    match buffer {
+        Buffer::Small => 3584,
+        Buffer::Middle => 12288,
+        Buffer::Large => 39936,
     }
-    if buffer == 1 {
-        return 12288;
-    }
-    39936
 }
 
-// The KiB that it asks for, where fewer are allowed; 0 where they are.
-pub fn lacking(buffer: u8, prints: bool, allowed: u64) -> u64
+// The KiB that it asks for, where fewer are allowed.
+pub fn lacking(buffer: Buffer, prints: bool, allowed: u64) -> Option<u64>
     ensures { result ≡ lack_of (need_of prints buffer) allowed }
 {
     lack(need_of(buffer, prints), allowed)
 }
 
 // The same of two of it.
-pub fn lacking_for_move(buffer: u8, allowed: u64) -> u64
+pub fn lacking_for_move(buffer: Buffer, allowed: u64) -> Option<u64>
     ensures { result ≡ lack_of (move_need_of buffer) allowed }
 {
     lack(move_need_of(buffer), allowed)
 }
 
-fn lack(needed: u64, allowed: u64) -> u64
+fn lack(needed: u64, allowed: u64) -> Option<u64>
     ensures { result ≡ lack_of needed allowed }
 {
     if allowed < needed {
-        return needed;
+        return Some(needed);
     }
-    0
+    None
 }

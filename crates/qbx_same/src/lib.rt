@@ -3,7 +3,7 @@
 #![tactic(auto)]
 
 ghost use Rattle.std.specs.Prelude.{◌≡◌};
-ghost use Rattle.qbx_same.specs.Same.{is_same, target_clash, beside_clash, clash_of};
+ghost use Rattle.qbx_same.specs.Same.{target_clash, beside_clash, clash_of};
 
 use qbx_system::{ENOENT, System};
 use std::fs::File;
@@ -14,16 +14,18 @@ const S_IFMT: u32 = 0o170000;
 
 const S_IFREG: u32 = 0o100000;
 
-// What tells a file from every other one while it is open: its device and its number there. The kind is 0 where the system
-// has told nothing.
+// What tells a file from every other one while it is open: its device and its number there. Beside them its kind.
 #[derive(Clone, Copy)]
+#[derive_where(PartialEq, Eq)]
 pub struct Identity {
     pub device: u64,
     pub number: u64,
+    #[derive_where(skip)]
     pub kind: u32,
 }
 
 // What a name leads to.
+// Kept: its three cases are as plain as they can be; `Result<Option<Identity>, Untold>` would name two types in each match.
 #[derive(Clone, Copy)]
 pub enum Found {
     File(Identity),
@@ -46,19 +48,17 @@ pub enum Clash {
 
 // ---- what the system tells: nothing is promised of it
 
-fn identify(system: &mut System, file: &File) -> Identity {
-    match system.status(file) {
-        Some(status) => Identity {
-            device: status.dev(),
-            number: status.ino(),
-            kind: status.mode() & S_IFMT,
-        },
-        None => Identity {
-            device: 0,
-            number: 0,
-            kind: 0,
-        },
+fn identify(system: &mut System, file: &File) -> Option<Identity> {
+    let status = system.status(file)?;
+    let kind = status.mode() & S_IFMT;
+    if kind == 0 {
+        return None;
     }
+    Some(Identity {
+        device: status.dev(),
+        number: status.ino(),
+        kind,
+    })
 }
 
 // What a name leads to, through links too.
@@ -69,23 +69,13 @@ fn look(system: &mut System, path: &[u8]) -> Found {
         }
         return Found::Untold;
     };
-    let found = identify(system, &file);
-    if found.kind == 0 {
-        return Found::Untold;
+    match identify(system, &file) {
+        Some(found) => Found::File(found),
+        None => Found::Untold,
     }
-    Found::File(found)
 }
 
 // ---- what follows from it
-
-fn is_same(a: Identity, b: Identity) -> bool
-    ensures { result ≡ is_same a b }
-{
-    if a.device == b.device {
-        return a.number == b.number;
-    }
-    false
-}
 
 // The name beside the target's: what has it is removed. A link to a folder could be on the way to the source.
 #[tactic(auto, unfolding(crate::specs::Same::beside_clash, crate::specs::Same::is_plain))]
@@ -95,15 +85,9 @@ fn with_beside(source: Identity, beside: Found) -> Clash
     match beside {
         Found::Nothing => Clash::Apart,
         Found::Untold => Clash::NoBeside,
-        Found::File(file) => {
-            if is_same(source, file) {
-                return Clash::SourceBeside;
-            }
-            if file.kind == S_IFREG {
-                return Clash::Apart;
-            }
-            Clash::InTheWay
-        }
+        Found::File(file) if source == file => Clash::SourceBeside,
+        Found::File(file) if file.kind == S_IFREG => Clash::Apart,
+        Found::File(_) => Clash::InTheWay,
     }
 }
 
@@ -115,12 +99,8 @@ fn with_target(source: Identity, target: Found, beside: Clash) -> Clash
     match target {
         Found::Nothing => beside,
         Found::Untold => Clash::NoTarget,
-        Found::File(file) => {
-            if is_same(source, file) {
-                return Clash::IsSource;
-            }
-            beside
-        }
+        Found::File(file) if source == file => Clash::IsSource,
+        Found::File(_) => beside,
     }
 }
 
@@ -134,9 +114,6 @@ fn judge(source: Identity, target: Found, beside: Found) -> Clash
 
 // The name beside the target's is looked at only if its own could be, or the system would tell its reason of the other one.
 fn against(system: &mut System, source: Identity, target: &[u8]) -> Clash {
-    if source.kind == 0 {
-        return Clash::NoSource;
-    }
     let own = look(system, target);
     if let Found::Untold = own {
         return Clash::NoTarget;
@@ -152,6 +129,8 @@ pub fn clash_of(system: &mut System, path: &[u8], target: &[u8]) -> Clash {
     let Some(file) = system.open_read(path) else {
         return Clash::NoSource;
     };
-    let source = identify(system, &file);
+    let Some(source) = identify(system, &file) else {
+        return Clash::NoSource;
+    };
     against(system, source, target)
 }

@@ -9,14 +9,12 @@ pub fn word(line: &[u8], k: usize) -> &[u8]
     ensures { result.now ≡ word_at k line.now }
 {
     let mut at = 0;
-    let mut i = 0;
-    while i < k {
+    for _i in 0..k {
         let end = byte_search::find(line, at, line.len(), b' ');
         if end == line.len() {
             return &line[end..end];
         }
         at = end + 1;
-        i += 1;
     }
     let end = byte_search::find(line, at, line.len(), b' ');
     &line[at..end]

@@ -2,14 +2,13 @@
 // the image's file replaced and the answer said.
 #![tactic(auto)]
 
-ghost use Rattle.std.specs.Prelude.{◌<◌, length};
+ghost use Rattle.std.specs.Prelude.{◌<◌, ◌≤◌, length, IfSome};
 ghost use Rattle.request.specs.Request.{size_of};
 
 use model::Answer;
-use qbx_files::Filled;
 use qbx_out::{fail, print};
 use qbx_same::Clash;
-use qbx_share_file::Listing;
+use qbx_share_file::WrongLine;
 use qbx_share_words::{ShareCommand, ShareVerb};
 use qbx_system::System;
 
@@ -107,11 +106,10 @@ fn work(
     requires { size_of command.segments command.slots < length image.old }
 {
     let size = request::size_of(command.segments as usize, command.slots as usize);
-    let file = qbx_images::present(system, image, path, size, false);
-    if !file.whole {
+    let Some(file) = qbx_images::present(system, image, path, size, false) else {
         fail(system, err, b"read ", path);
         return;
-    }
+    };
     let n = file.count;
     act(
         system,
@@ -126,15 +124,12 @@ fn work(
     );
 }
 
-// Reads the file of shares: how many bytes, and whether they could be had, by the system's word.
-fn text_of(system: &mut System, path: &[u8], text: &mut [u8]) -> Filled {
-    let Some(mut file) = system.open_read(path) else {
-        return Filled {
-            count: 0,
-            whole: false,
-        };
-    };
-    qbx_files::fill(system, &mut file, text)
+// Reads the file of shares: how many bytes, if they could be had, by the system's word.
+fn text_of(system: &mut System, path: &[u8], text: &mut [u8]) -> Option<usize>
+    ensures { IfSome result (λ n. n ≤ length text.new) }
+{
+    let mut file = system.open_read(path)?;
+    qbx_files::fill(system, &mut file, text).ok()
 }
 
 // A command with the file of shares read.
@@ -152,12 +147,10 @@ fn serve(
 {
     // a byte more than it may have, so that a longer file is seen to be one
     let mut text = [0u8; MOST_TEXT + 1];
-    let filled = text_of(system, shares_path, &mut text);
-    if !filled.whole {
+    let Some(n) = text_of(system, shares_path, &mut text) else {
         fail(system, err, b"read ", shares_path);
         return;
-    }
-    let n = filled.count;
+    };
     if n > MOST_TEXT {
         io::write_all(err, b"qbx: SHARES is longer than 4096 bytes\n");
         return;
@@ -165,7 +158,7 @@ fn serve(
     let mut shares = [0u32; NUMBERS];
     let listing = qbx_share_file::read_shares(&text[..n], &mut shares);
     match listing {
-        Listing::Listed(count) => work(
+        Ok(count) => work(
             system,
             image,
             path,
@@ -175,7 +168,7 @@ fn serve(
             out,
             err,
         ),
-        Listing::Wrong(line) => print(err, qbx_share_says::say_wrong_line(line)),
+        Err(WrongLine(line)) => print(err, qbx_share_says::say_wrong_line(line)),
     }
 }
 

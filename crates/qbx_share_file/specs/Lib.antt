@@ -1,4 +1,4 @@
+pub mod AnyFile
 pub mod ShareFile
 pub mod Instances
 pub mod Steps
-pub mod AnyFile

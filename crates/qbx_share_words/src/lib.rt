@@ -2,10 +2,10 @@
 #![tactic(auto)]
 
 ghost use Rattle.std.specs.Prelude.{◌≡◌};
-ghost use Rattle.qbx_share_words.specs.Share.{names_shares, share_verb_of, of_tenant, share_of};
+ghost use Rattle.qbx_share_words.specs.Share.{share_verb_of, of_tenant, share_of};
 
 use model::BlockNumber;
-use qbx_numbers::{Parsed, Parsed32, number, number32};
+use qbx_numbers::{number, number16, number32};
 use qbx_words::{Complaint, is, is_missing};
 
 #[derive(Clone, Copy)]
@@ -25,69 +25,45 @@ pub struct ShareCommand {
     pub block: BlockNumber,
 }
 
-#[derive(Clone, Copy)]
-pub enum ShareReading {
-    Right(ShareCommand),
-    Wrong(Complaint),
-}
-
-// Whether a verb is a tenant's. It is no other command's: a file of shares and a tenant follow it.
-pub fn names_shares(verb: &[u8]) -> bool
-    ensures { result ≡ names_shares verb.now }
-{
-    if is(verb, b"share-put") {
-        return true;
-    }
-    if is(verb, b"share-get") {
-        return true;
-    }
-    is(verb, b"share-delete")
-}
-
-// Which of the three a tenant's verb is.
-fn share_verb_of(verb: &[u8]) -> ShareVerb
+// Which of the three a tenant's verb is, if a word is one. It is no other command's: a file of shares and a tenant follow it.
+#[tactic(auto, unfolding(crate::specs::Share::share_verb_of, text::specs::Text::text))]
+pub fn share_verb_of(verb: &[u8]) -> Option<ShareVerb>
     ensures { result ≡ share_verb_of verb.now }
 {
     if is(verb, b"share-put") {
-        return ShareVerb::Put;
+        return Some(ShareVerb::Put);
     }
     if is(verb, b"share-get") {
-        return ShareVerb::Get;
+        return Some(ShareVerb::Get);
     }
-    ShareVerb::Delete
+    if is(verb, b"share-delete") {
+        return Some(ShareVerb::Delete);
+    }
+    None
 }
 
 // The words after the name of the shares' file.
-#[tactic(auto, unfolding(crate::specs::Share::of_tenant, crate::specs::Share::as_number, crate::specs::Share::as_number32))]
+#[tactic(auto, unfolding(crate::specs::Share::of_tenant, qbx_numbers::specs::Number::as_number))]
 fn of_tenant(
     segments: u64,
     slots: u64,
     verb: ShareVerb,
     tenant: &[u8],
     block: &[u8],
-) -> ShareReading
+) -> Result<ShareCommand, Complaint>
     ensures { result ≡ of_tenant segments slots verb tenant.now block.now }
 {
-    let Parsed32::Number32(a) = number32(tenant) else {
-        return ShareReading::Wrong(Complaint::Tenant);
-    };
-    let Parsed::Number(b) = number(block) else {
-        return ShareReading::Wrong(Complaint::Block);
-    };
-    if b >= 65536 {
-        return ShareReading::Wrong(Complaint::Block);
-    }
-    ShareReading::Right(ShareCommand {
+    Ok(ShareCommand {
         segments,
         slots,
         verb,
-        tenant: a,
-        block: BlockNumber(b as u16),
+        tenant: number32(tenant).ok_or(Complaint::Tenant)?,
+        block: BlockNumber(number16(block).ok_or(Complaint::Block)?),
     })
 }
 
-// The words after the image's name; those that are missing are empty.
-#[tactic(auto, unfolding(crate::specs::Share::share_of, crate::specs::Share::as_number))]
+// The words after the image's name; those that are missing are empty. A verb that is none of the three is taken for the last.
+#[tactic(auto, unfolding(crate::specs::Share::share_of, crate::specs::Share::or_delete, qbx_numbers::specs::Number::as_number))]
 pub fn share_of(
     segments: &[u8],
     slots: &[u8],
@@ -95,17 +71,14 @@ pub fn share_of(
     shares: &[u8],
     tenant: &[u8],
     block: &[u8],
-) -> ShareReading
+) -> Result<ShareCommand, Complaint>
     ensures { result ≡ share_of segments.now slots.now verb.now shares.now tenant.now block.now }
 {
-    let Parsed::Number(n) = number(segments) else {
-        return ShareReading::Wrong(Complaint::Segments);
-    };
-    let Parsed::Number(b) = number(slots) else {
-        return ShareReading::Wrong(Complaint::Slots);
-    };
+    let segments = number(segments).ok_or(Complaint::Segments)?;
+    let slots = number(slots).ok_or(Complaint::Slots)?;
     if is_missing(shares) {
-        return ShareReading::Wrong(Complaint::NoShares);
+        return Err(Complaint::NoShares);
     }
-    of_tenant(n, b, share_verb_of(verb), tenant, block)
+    let verb = share_verb_of(verb).unwrap_or(ShareVerb::Delete);
+    of_tenant(segments, slots, verb, tenant, block)
 }

@@ -24,13 +24,13 @@ fn limit_of_stack(text: &str) -> u64 {
 
 // The soft limit in bytes. It is the system's word, so nothing is promised of it. No limit is the largest number, and where it cannot
 // be read, it is 0.
+// Kept: a limit that cannot be read allows nothing, which 0 says to every caller; an `Option` would be taken for 0 by each of them.
 pub fn allowed(system: &mut System) -> u64 {
     let Some(mut file) = system.open_read(b"/proc/self/limits") else {
         return 0;
     };
     let mut limits = [0u8; 4096];
-    let filled = qbx_files::fill(system, &mut file, &mut limits);
-    let n = filled.count;
+    let (Ok(n) | Err(n)) = qbx_files::fill(system, &mut file, &mut limits);
     match str::from_utf8(&limits[..n]) {
         Ok(text) => limit_of_stack(text),
         Err(_) => 0,

@@ -3,7 +3,7 @@
 // system does.
 #![tactic(auto)]
 
-ghost use Rattle.std.specs.Prelude.{◌≡◌, ◌≤◌, length, true, pos, IsSome};
+ghost use Rattle.std.specs.Prelude.{◌≡◌, ◌≤◌, length, drop, [], ◌∷◌, true, pos, IsSome};
 ghost use Rattle.io.specs.Counts.{IsPrefixLen};
 ghost use Rattle.qbx_system.specs.Reasons.{number_of};
 
@@ -134,6 +134,7 @@ impl System {
 
     // Puts a word of the command line at the start of a buffer, and gives its length; 0 where it is missing or longer than that.
     // The reason is set each time, to 0 where the whole word is there.
+    // Kept: a missing word is an empty one to every caller, and the reason tells them apart; an `Option` would be taken for 0 by each.
     pub fn arg(&mut self, i: usize, buf: &mut [u8]) -> usize
         ensures { IsPrefixLen result buf.new }
     {
@@ -153,6 +154,19 @@ impl System {
         }
     }
 
+    // The same of a word that says a number or a verb, in a buffer of its own. Of one that is too long the start is given, with dots, so
+    // that it means nothing.
+    pub fn word<'a>(&mut self, i: usize, buf: &'a mut [u8; 64]) -> &'a [u8]
+        ensures dotted { self.new.reason ≡ pos 36 → drop 61 result.now ≡ 46 ∷ 46 ∷ 46 ∷ [] }
+    {
+        let n = self.arg(i, buf);
+        if self.reason == ENAMETOOLONG {
+            buf[61..].copy_from_slice(b"...");
+            return &buf[..];
+        }
+        &buf[..n]
+    }
+
     pub fn stdin(&self) -> StdinLock<'static> {
         self.rt.reader()
     }
@@ -169,16 +183,23 @@ impl System {
         self.done(written)
     }
 
+    // What a call gave; the reason is taken of one that failed.
+    fn told<T: Drop>(&mut self, outcome: Result<T, Error>) -> Option<T>
+        ensures kept { IsSome result → self.new.reason ≡ self.old.reason }
+    {
+        match outcome {
+            Ok(value) => Some(value),
+            Err(error) => {
+                self.take(error);
+                None
+            }
+        }
+    }
+
     fn done(&mut self, outcome: Result<(), Error>) -> bool
         ensures kept { result ≡ true → self.new.reason ≡ self.old.reason }
     {
-        match outcome {
-            Ok(()) => true,
-            Err(error) => {
-                self.take(error);
-                false
-            }
-        }
+        self.told(outcome).is_some()
     }
 
     // A file's name, if it is text.
@@ -194,24 +215,12 @@ impl System {
         }
     }
 
-    fn opened(&mut self, outcome: Result<File, Error>) -> Option<File>
-        ensures kept { IsSome result → self.new.reason ≡ self.old.reason }
-    {
-        match outcome {
-            Ok(file) => Some(file),
-            Err(error) => {
-                self.take(error);
-                None
-            }
-        }
-    }
-
     pub fn open_read(&mut self, path: &[u8]) -> Option<File>
         ensures kept { IsSome result → self.new.reason ≡ self.old.reason }
     {
         let name = self.name(path)?;
         let outcome = File::open(&self.rt, name);
-        self.opened(outcome)
+        self.told(outcome)
     }
 
     // Creates a file for writing, unless the name is taken.
@@ -223,7 +232,7 @@ impl System {
             .write(true)
             .create_new(true)
             .open(&self.rt, name);
-        self.opened(outcome)
+        self.told(outcome)
     }
 
     pub fn remove(&mut self, path: &[u8]) -> bool
@@ -264,12 +273,6 @@ impl System {
     pub fn status(&mut self, file: &File) -> Option<Metadata>
         ensures kept { IsSome result → self.new.reason ≡ self.old.reason }
     {
-        match file.metadata() {
-            Ok(metadata) => Some(metadata),
-            Err(error) => {
-                self.take(error);
-                None
-            }
-        }
+        self.told(file.metadata())
     }
 }

@@ -4,53 +4,26 @@ ghost use Rattle.qbx_verbs.specs.Verbs.{known, names_block, writes};
 
 use crate::Verb;
 
+#[tactic(auto, unfolding(crate::specs::Verbs::known))]
 pub fn known(verb: Verb) -> bool
     ensures { result ≡ known verb }
 {
-    match verb {
-        Verb::Format => true,
-        Verb::Put => true,
-        Verb::Get => true,
-        Verb::Delete => true,
-        Verb::Recover => true,
-        Verb::Check => true,
-        Verb::Account => true,
-        Verb::Map => true,
-        Verb::Salvage => true,
-        Verb::Unknown => false,
-    }
+    !matches!(verb, Verb::Unknown)
 }
 
+#[tactic(auto, unfolding(crate::specs::Verbs::names_block))]
 pub fn names_block(verb: Verb) -> bool
     ensures { result ≡ names_block verb }
 {
-    match verb {
-        Verb::Format => false,
-        Verb::Put => true,
-        Verb::Get => true,
-        Verb::Delete => true,
-        Verb::Recover => false,
-        Verb::Check => false,
-        Verb::Account => false,
-        Verb::Map => false,
-        Verb::Salvage => false,
-        Verb::Unknown => false,
-    }
+    matches!(verb, Verb::Put | Verb::Get | Verb::Delete)
 }
 
+#[tactic(auto, unfolding(crate::specs::Verbs::writes))]
 pub fn writes(verb: Verb) -> bool
     ensures { result ≡ writes verb }
 {
-    match verb {
-        Verb::Format => true,
-        Verb::Put => true,
-        Verb::Get => false,
-        Verb::Delete => true,
-        Verb::Recover => true,
-        Verb::Check => false,
-        Verb::Account => false,
-        Verb::Map => false,
-        Verb::Salvage => false,
-        Verb::Unknown => false,
-    }
+    matches!(
+        verb,
+        Verb::Format | Verb::Put | Verb::Delete | Verb::Recover
+    )
 }

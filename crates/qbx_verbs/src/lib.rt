@@ -23,19 +23,9 @@ pub enum Verb {
 }
 
 // Whether what a verb says is a text of many lines.
+#[tactic(auto, unfolding(crate::specs::Verbs::prints))]
 pub fn prints(verb: Verb) -> bool
     ensures { result ≡ prints verb }
 {
-    match verb {
-        Verb::Format => false,
-        Verb::Put => false,
-        Verb::Get => false,
-        Verb::Delete => false,
-        Verb::Recover => false,
-        Verb::Check => false,
-        Verb::Account => true,
-        Verb::Map => true,
-        Verb::Salvage => true,
-        Verb::Unknown => false,
-    }
+    matches!(verb, Verb::Account | Verb::Map | Verb::Salvage)
 }

@@ -2,9 +2,9 @@
 ghost use Rattle.std.specs.Prelude.{◌≡◌};
 ghost use Rattle.qbx_words.specs.Command.{is_missing, with_budget, with_block, after_verb, command_of};
 
-use crate::{Command, Complaint, Reading};
+use crate::{Command, Complaint};
 use model::BlockNumber;
-use qbx_numbers::{Parsed, number};
+use qbx_numbers::{number, number16};
 use qbx_verb_words::{is, verb_of};
 use qbx_verbs::{known, names_block, writes};
 
@@ -12,75 +12,59 @@ use qbx_verbs::{known, names_block, writes};
 pub fn is_missing(word: &[u8]) -> bool
     ensures { result ≡ is_missing word.now }
 {
-    word.len() == 0
+    word.is_empty()
 }
 
 // The option at the end.
-#[tactic(auto, unfolding(crate::specs::Command::with_budget, crate::specs::Command::as_number, text::specs::Text::text))]
-fn with_budget(command: Command, option: &[u8], steps: &[u8]) -> Reading
+#[tactic(auto, unfolding(crate::specs::Command::with_budget, qbx_numbers::specs::Number::as_number, text::specs::Text::text))]
+fn with_budget(command: Command, option: &[u8], steps: &[u8]) -> Result<Command, Complaint>
     ensures { result ≡ with_budget command option.now steps.now }
 {
     if is_missing(option) {
-        return Reading::Right(command);
+        return Ok(command);
     }
-    if !is(option, b"--budget") {
-        return Reading::Wrong(Complaint::NoOption);
+    if !is(option, b"--budget") || !writes(command.verb) {
+        return Err(Complaint::NoOption);
     }
-    let verb = command.verb;
-    if !writes(verb) {
-        return Reading::Wrong(Complaint::NoOption);
-    }
-    let Parsed::Number(budget) = number(steps) else {
-        return Reading::Wrong(Complaint::Budget);
-    };
-    let block = command.block;
-    Reading::Right(Command {
-        segments: command.segments,
-        slots: command.slots,
-        verb,
-        block,
-        budget,
-    })
+    let budget = number(steps).ok_or(Complaint::Budget)?;
+    Ok(Command { budget, ..command })
 }
 
 // The words after a verb that names a block.
-#[tactic(auto, unfolding(crate::specs::Command::with_block, crate::specs::Command::as_number))]
-fn with_block(command: Command, block: &[u8], option: &[u8], steps: &[u8]) -> Reading
+#[tactic(auto, unfolding(crate::specs::Command::with_block, qbx_numbers::specs::Number::as_number))]
+fn with_block(
+    command: Command,
+    block: &[u8],
+    option: &[u8],
+    steps: &[u8],
+) -> Result<Command, Complaint>
     ensures { result ≡ with_block command block.now option.now steps.now }
 {
-    let Parsed::Number(b) = number(block) else {
-        return Reading::Wrong(Complaint::Block);
-    };
-    if b >= 65536 {
-        return Reading::Wrong(Complaint::Block);
-    }
-    let verb = command.verb;
-    let on = Command {
-        segments: command.segments,
-        slots: command.slots,
-        verb,
-        block: BlockNumber(b as u16),
-        budget: command.budget,
-    };
-    with_budget(on, option, steps)
+    let block = BlockNumber(number16(block).ok_or(Complaint::Block)?);
+    with_budget(Command { block, ..command }, option, steps)
 }
 
 // The words after a verb.
-fn after_verb(command: Command, first: &[u8], second: &[u8], third: &[u8]) -> Reading
+#[tactic(auto, unfolding(crate::specs::Command::after_verb))]
+fn after_verb(
+    command: Command,
+    first: &[u8],
+    second: &[u8],
+    third: &[u8],
+) -> Result<Command, Complaint>
     ensures { result ≡ after_verb command first.now second.now third.now }
 {
-    let verb = command.verb;
-    if names_block(verb) {
+    if names_block(command.verb) {
         return with_block(command, first, second, third);
     }
     if is_missing(third) {
         return with_budget(command, first, second);
     }
-    Reading::Wrong(Complaint::NoOption)
+    Err(Complaint::NoOption)
 }
 
 // The words after the image's name; those that are missing are empty.
-#[tactic(auto, unfolding(crate::specs::Command::command_of, crate::specs::Command::as_number))]
+#[tactic(auto, unfolding(crate::specs::Command::command_of, qbx_numbers::specs::Number::as_number))]
 pub fn command_of(
     segments: &[u8],
     slots: &[u8],
@@ -88,22 +72,18 @@ pub fn command_of(
     first: &[u8],
     second: &[u8],
     third: &[u8],
-) -> Reading
+) -> Result<Command, Complaint>
     ensures { result ≡ command_of segments.now slots.now verb.now first.now second.now third.now }
 {
-    let Parsed::Number(n) = number(segments) else {
-        return Reading::Wrong(Complaint::Segments);
-    };
-    let Parsed::Number(b) = number(slots) else {
-        return Reading::Wrong(Complaint::Slots);
-    };
+    let segments = number(segments).ok_or(Complaint::Segments)?;
+    let slots = number(slots).ok_or(Complaint::Slots)?;
     let verb = verb_of(verb);
     if !known(verb) {
-        return Reading::Wrong(Complaint::NoVerb);
+        return Err(Complaint::NoVerb);
     }
     let plain = Command {
-        segments: n,
-        slots: b,
+        segments,
+        slots,
         verb,
         block: BlockNumber(0),
         budget: u64::MAX,

@@ -33,9 +33,3 @@ pub enum Complaint {
     NoOption,
     Budget,
 }
-
-#[derive(Clone, Copy)]
-pub enum Reading {
-    Right(Command),
-    Wrong(Complaint),
-}

@@ -2,7 +2,7 @@
 // the answer said.
 #![tactic(auto)]
 
-ghost use Rattle.std.specs.Prelude.{◌≡◌, false, ◌<◌, ◌≤◌, length};
+ghost use Rattle.std.specs.Prelude.{◌≡◌, false, ◌<◌, ◌≤◌, length, IfSome};
 ghost use Rattle.request.specs.Request.{size_of};
 ghost use Rattle.qbx_verbs.specs.Verbs.{prints};
 
@@ -14,16 +14,18 @@ use qbx_verbs::Verb;
 use qbx_words::Command;
 
 // Has the image's file in the buffer: the file's own bytes, or a chip from the factory where format finds none.
-fn present(system: &mut System, image: &mut [u8], path: &[u8], command: Command) -> ImageFile
+fn present(
+    system: &mut System,
+    image: &mut [u8],
+    path: &[u8],
+    command: Command,
+) -> Option<ImageFile>
     requires { size_of command.segments command.slots < length image.old }
-    ensures { result.count ≤ length image.new }
+    ensures { IfSome result (λ file. file.count ≤ length image.new) }
 {
     let size = request::size_of(command.segments as usize, command.slots as usize);
-    let verb = command.verb;
-    if let Verb::Format = verb {
-        return qbx_images::present(system, image, path, size, true);
-    }
-    qbx_images::present(system, image, path, size, false)
+    let makes = matches!(command.verb, Verb::Format);
+    qbx_images::present(system, image, path, size, makes)
 }
 
 // Says an answer and the steps done; beside a wrong size what N and B ask for, and the bytes that are there.
@@ -138,11 +140,10 @@ pub fn obey(
 )
     requires { (size_of command.segments command.slots < length image.old) × (prints command.verb ≡ false) }
 {
-    let file = present(system, image, path, command);
-    if !file.whole {
+    let Some(file) = present(system, image, path, command) else {
         fail(system, err, b"read ", path);
         return;
-    }
+    };
     let n = file.count;
     act(
         system,
@@ -169,11 +170,10 @@ pub fn show(
 )
     requires { size_of command.segments command.slots < length image.old }
 {
-    let file = present(system, image, path, command);
-    if !file.whole {
+    let Some(file) = present(system, image, path, command) else {
         fail(system, err, b"read ", path);
         return;
-    }
+    };
     let n = file.count;
     let printed = qbx_texts::describe(&image[..n], command, text);
     let answer = printed.answer;

@@ -36,7 +36,7 @@ use Rattle.adding.specs.Adding.{LivePage}
 use Rattle.fresh.specs.Fresh.{page_at, listed, Pointing}
 use Rattle.salvage.specs.Salvage.{held_in, candidates, given, salvaged, rebuild_refusals, rebuild_work, rebuild_outcome}
 use Rattle.salvage.proofs.Facts.{salvaged_distinct, salvaged_valid, rebuild_fits}
-use Rattle.meeting.specs.Sheet.{Sheet}
+use Rattle.meeting.specs.declared.Sheet.{Sheet}
 use Rattle.candidates.specs.Gathered.{NoneOf, OneOf, Tells, Gathered}
 use Rattle.candidates.specs.Lie.{candidates_lie, given_below}
 

@@ -9,20 +9,20 @@ ghost use Rattle.model.specs.Answers.{performed};
 ghost use Rattle.index.specs.Tables.{most_pages};
 ghost use Rattle.salvage.specs.Salvage.{rebuild_outcome};
 
-use model::{Answer, Performed};
+use meeting::Sheet;
+use model::{Answer, Geometry, Performed};
 
 // How many block numbers a table tells a place of.
 fn given_count(places: &[u32]) -> usize
     requires { length places.now ≡ most_pages }
     ensures { result ≡ count (λ p. ltb 0 p) places.now }
 {
+    // Kept: counted in 32 bits, four entries at a time where `filter(..).count()` takes two (docs/PROVING.md, "Speed").
     let mut given: u32 = 0;
-    let mut block: usize = 0;
-    while block < 65536 {
-        if places[block] != 0 {
+    for &place in places {
+        if place != 0 {
             given += 1;
         }
-        block += 1;
     }
     given as usize
 }
@@ -31,38 +31,26 @@ fn given_count(places: &[u32]) -> usize
 // how many candidates there are does not matter.
 fn restore(
     source: &[u8],
-    segments: usize,
-    slots: usize,
+    geometry: Geometry,
     target: &mut [u8],
-    target_segments: usize,
-    target_slots: usize,
+    target_geometry: Geometry,
     budget: u64,
 ) -> Performed
-    requires { (right_size segments slots source.now ≡ true) × (right_size target_segments target_slots target.old ≡ true) }
-    ensures { performed result target.new ≡ rebuild_outcome segments slots source.now target_segments target_slots target.old budget }
+    requires { (right_size geometry.segments geometry.slots source.now ≡ true) × (right_size target_geometry.segments target_geometry.slots target.old ≡ true) }
+    ensures { performed result target.new ≡ rebuild_outcome geometry.segments geometry.slots source.now target_geometry.segments target_geometry.slots target.old budget }
 {
-    let mut places = [0u32; 65536];
-    let mut lengths = [0u8; 65536];
-    let mut differs = [false; 65536];
-    candidates::gather(
-        source,
-        segments,
-        slots,
-        &mut places,
-        &mut lengths,
-        &mut differs,
-    );
-    if request::capacity(target_segments, target_slots) < given_count(&places) {
+    let mut sheet = Sheet {
+        places: [0; 65536],
+        lengths: [0; 65536],
+        differs: [false; 65536],
+    };
+    candidates::gather(source, geometry, &mut sheet);
+    if request::capacity(target_geometry.segments, target_geometry.slots)
+        < given_count(&sheet.places)
+    {
         return request::refused(Answer::Full);
     }
-    fresh::build(
-        source,
-        &places,
-        target,
-        target_segments,
-        target_slots,
-        budget,
-    )
+    fresh::build(source, &sheet.places, target, target_geometry, budget)
 }
 
 // Builds a fresh image from the candidates given of another: formatted, then each block put by rising number.
@@ -77,19 +65,16 @@ pub fn rebuild(
 ) -> Performed
     ensures { performed result target.new ≡ rebuild_outcome segments slots source.now target_segments target_slots target.old budget }
 {
+    let geometry = Geometry { segments, slots };
+    let target_geometry = Geometry {
+        segments: target_segments,
+        slots: target_slots,
+    };
     if !request::right_size(source.len(), segments, slots) {
         return request::refused(Answer::Size);
     }
     if !request::right_size(target.len(), target_segments, target_slots) {
         return request::refused(Answer::Size);
     }
-    restore(
-        source,
-        segments,
-        slots,
-        target,
-        target_segments,
-        target_slots,
-        budget,
-    )
+    restore(source, geometry, target, target_geometry, budget)
 }

@@ -13,13 +13,12 @@ use Rattle.model.specs.Chip.{Image, Page, most_segments}
 use Rattle.model.specs.Header.{erase_pending, is_former, header_version, header_status, header_number, header_in_use, is_blank}
 use Rattle.model.specs.Slot.{Slot}
 use Rattle.model.specs.State.{Segment, blank, invalid, in_use, is_in_use, is_owing, number_after, segments_of, next_number, next_index, top_index, next_blanked}
-use Rattle.model.specs.declared.SegmentNumber.{SegmentNumber}
 use Rattle.model.specs.Laws.Lists.{map_set}
 use Rattle.model.proofs.Laws.Ring.{owing_number, next_ge, next_at}
 use Rattle.judge.specs.Rows.{slots_at}
 use Rattle.judge.specs.Parts.{header_offset, slots_offset, segment_seen, segment_seen_lem}
-use Rattle.header_seen.specs.declared.HeaderSeen.{HeaderSeen}
-use Rattle.header_seen.specs.declared.HeaderSeen.TheVariants.{InUse, NotInUse}
+use Rattle.std.specs.Prelude.{Option, Some, None}
+use Rattle.header_seen.specs.declared.HeaderInUse.{HeaderInUse}
 use Rattle.header_seen.specs.Seen.{header_seen}
 use Rattle.index.proofs.Walks.{held_all, number_use}
 use Rattle.descent.specs.Descent.{largest, largest_next}
@@ -28,23 +27,23 @@ use Rattle.salvage.specs.Salvage.{regarded}
 -- ---- one segment
 
 module _ (N B i : ℕ) (h : Page) (t : Bool) (ks : List Slot) where
-  after_used : (f : Bool) (st : ℕ) (n : SegmentNumber) → header_seen N B i h ≡ InUse f st n → number_after (segment_seen N B i h t ks) ≡ n.0 + 1
+  after_used : (x : HeaderInUse) → header_seen N B i h ≡ Some x → number_after (segment_seen N B i h t ks) ≡ x.number.0 + 1
   unfolding header_seen segment_seen number_after
-  after_used f st n e = go (header_in_use N B i h) e
+  after_used x e = go (header_in_use N B i h) e
     where
-      go : (b : Bool) → cond b (InUse (is_former (header_version h)) (header_status h) (record { 0 = header_number h })) NotInUse ≡ InUse f st n
-          → number_after (cond b (in_use (header_version h) (header_status h) (header_number h) ks) (cond t blank invalid)) ≡ n.0 + 1
+      go : (b : Bool) → cond {A = Option HeaderInUse} b (Some (record { former = is_former (header_version h); status = header_status h; number = record { 0 = header_number h } })) None ≡ Some x
+          → number_after (cond b (in_use (header_version h) (header_status h) (header_number h) ks) (cond t blank invalid)) ≡ x.number.0 + 1
       go true q =
-          let b : ◌≡◌ {A = SegmentNumber} (record { 0 = header_number h }) n = cc in
-          let m : header_number h ≡ n.0 = ap (λ (x : SegmentNumber). x.0) b in
+          let r : ◌≡◌ {A = HeaderInUse} (record { former = is_former (header_version h); status = header_status h; number = record { 0 = header_number h } }) x = cc in
+          let m : header_number h ≡ x.number.0 = ap (λ (y : HeaderInUse). y.number.0) r in
           omega arith
       go false q = absurd (let z : ◌≡◌ {A = ℕ} 0 1 = cc in omega arith)
 
-  after_unused : header_seen N B i h ≡ NotInUse → number_after (segment_seen N B i h t ks) ≡ 0
+  after_unused : header_seen N B i h ≡ None → number_after (segment_seen N B i h t ks) ≡ 0
   unfolding header_seen segment_seen number_after
   after_unused e = go (header_in_use N B i h) t e
     where
-      go : (b u : Bool) → cond b (InUse (is_former (header_version h)) (header_status h) (record { 0 = header_number h })) NotInUse ≡ NotInUse
+      go : (b u : Bool) → cond {A = Option HeaderInUse} b (Some (record { former = is_former (header_version h); status = header_status h; number = record { 0 = header_number h } })) None ≡ None
           → number_after (cond b (in_use (header_version h) (header_status h) (header_number h) ks) (cond u blank invalid)) ≡ 0
       go true u q = absurd (let z : ◌≡◌ {A = ℕ} 0 1 = cc in omega arith)
       go false true q = refl
@@ -72,11 +71,11 @@ module _ (N B i : ℕ) (s : Image) (h : i < N) where
   abbrev is_it : Bool
   is_it = is_blank (take ((B + 1) * 256) (drop (header_offset B i) s))
 
-  pub number_used : (r : HeaderSeen) (f : Bool) (st : ℕ) (n : SegmentNumber) → r ≡ header_seen N B i (take (i * (B + 1) * 256 + 256 - i * (B + 1) * 256) (drop (i * (B + 1) * 256) s)) → r ≡ InUse f st n
-      → n.0 + 1 ≡ number_after (get_or (segments_of N B s) i blank)
-  number_used r f st n e q = sym (ap number_after (segment_seen_lem N B i s h) ∙ after_used N B i page is_it (slots_at s (slots_offset B i) B) f st n (sym (e ∙ ap (header_seen N B i) page_is) ∙ q))
+  pub number_used : (r : Option HeaderInUse) (x : HeaderInUse) → r ≡ header_seen N B i (take (i * (B + 1) * 256 + 256 - i * (B + 1) * 256) (drop (i * (B + 1) * 256) s)) → r ≡ Some x
+      → x.number.0 + 1 ≡ number_after (get_or (segments_of N B s) i blank)
+  number_used r x e q = sym (ap number_after (segment_seen_lem N B i s h) ∙ after_used N B i page is_it (slots_at s (slots_offset B i) B) x (sym (e ∙ ap (header_seen N B i) page_is) ∙ q))
 
-  pub number_unused : (r : HeaderSeen) → r ≡ header_seen N B i (take (i * (B + 1) * 256 + 256 - i * (B + 1) * 256) (drop (i * (B + 1) * 256) s)) → r ≡ NotInUse
+  pub number_unused : (r : Option HeaderInUse) → r ≡ header_seen N B i (take (i * (B + 1) * 256 + 256 - i * (B + 1) * 256) (drop (i * (B + 1) * 256) s)) → r ≡ None
       → 0 ≡ number_after (get_or (segments_of N B s) i blank)
   number_unused r e q = sym (ap number_after (segment_seen_lem N B i s h) ∙ after_unused N B i page is_it (slots_at s (slots_offset B i) B) (sym (e ∙ ap (header_seen N B i) page_is) ∙ q))
 

@@ -32,6 +32,7 @@ pub fn in_range(segments: usize, slots: usize) -> bool
 }
 
 // The bytes of an image with so many segments and slots, or 0. The ranges are tested before anything is multiplied.
+// Kept: 0 and no Option: the definition `size_of` gives 0 there.
 pub fn size_of(segments: usize, slots: usize) -> usize
     ensures { (result ≡ size_of segments slots) × (result ≤ largest_image) }
 {
@@ -109,6 +110,7 @@ pub fn finished(budget: u64, left: u64, before: u64, last: u64) -> Performed
 
 // The number of an answer in document 01's table; 10 is of request #102, 11 of #104, 12 and 13 of #110, 14 of
 // #101.
+#[tactic(auto, unfolding(model::specs::Answers::code_of))]
 pub fn code_of(answer: Answer) -> u8
     ensures { result ≡ code_of answer }
 {
@@ -135,5 +137,5 @@ pub fn code_of(answer: Answer) -> u8
 pub fn number_of(answer: Answer) -> u64
     ensures { (result ≡ code_of answer) × (result ≤ 255) }
 {
-    code_of(answer) as u64
+    u64::from(code_of(answer))
 }

@@ -1,10 +1,9 @@
 -- What is seen of the ring of segments in use: by each part of the search on any image, and by the whole.
-use Rattle.std.specs.Prelude.{ℕ, ◌+◌, ◌-◌, ◌*◌, ◌%◌, ◌≤◌, ◌<◌, ◌≡◌, ◌≢◌, ◌⊎◌, true, length, get_or, take, drop}
+use Rattle.std.specs.Prelude.{ℕ, ◌+◌, ◌-◌, ◌*◌, ◌%◌, ◌≤◌, ◌<◌, ◌≡◌, ◌≢◌, ◌⊎◌, true, length, get_or, take, drop, Option, None, Some}
 use Rattle.model.specs.Chip.{Image, erase_limit, right_size}
 use Rattle.model.specs.Header.{header_number}
 use Rattle.model.specs.State.{clean, state, view}
 use Rattle.ring.specs.declared.Ring.{Ring}
-use Rattle.ring.specs.declared.Ring.TheVariants.{InUse, Broken}
 
 -- ---- headers, whatever other bytes the image has
 
@@ -49,11 +48,11 @@ UsedSeen N B s top r =
 -- ---- the whole
 
 -- numbers below the limit, and a segment left over
-abbrev pub Bounded : ℕ → Ring → Type 0
-Bounded N (InUse f u) = (1 ≤ u) × (u + 1 ≤ N) × (f.0 + u ≤ erase_limit * N)
-Bounded N Broken = Unit {0}
+abbrev pub Bounded : ℕ → Option Ring → Type 0
+Bounded N (Some x) = (1 ≤ x.used) × (x.used + 1 ≤ N) × (x.first.0 + x.used ≤ erase_limit * N)
+Bounded N None = Unit {0}
 
 -- whatever the image is, what is seen is in bounds; on a clean one it is the view's
-pub record SeenRing (N B : ℕ) (s : Image) (r : Ring) : Type 0 where
+pub record SeenRing (N B : ℕ) (s : Image) (r : Option Ring) : Type 0 where
   pub bounded : Bounded N r
-  pub exact : right_size N B s ≡ true → state N B s ≡ clean → r ≡ InUse (record { 0 = (view N B s).first }) (length (view N B s).slots)
+  pub exact : right_size N B s ≡ true → state N B s ≡ clean → r ≡ Some (record { first = record { 0 = (view N B s).first }; used = length (view N B s).slots })

@@ -15,7 +15,7 @@ use Rattle.model.specs.Lists.{all, count}
 use Rattle.model.specs.Chip.{Image, Bytes, Step, erased, number_limit, most_segments, run}
 use Rattle.model.specs.Header.{new_version, is_former, bit_values, cleared_in, cleared_bits, tally_of}
 use Rattle.model.specs.Slot.{Slot, empty, is_empty}
-use Rattle.model.specs.State.{View, entries, clean, state, view}
+use Rattle.model.specs.State.{View, entries, view}
 use Rattle.model.specs.Steps.{top_row, top_number, has_room, first_empty, open_segment, compact, copied, next_version, open_next, compact_oldest, room_for, compactions, new_numbers, is_worn}
 use Rattle.model.proofs.Laws.Chip.{size_facts}
 use Rattle.model.proofs.Laws.Ring.{apart_before}

@@ -4,7 +4,7 @@
 ghost use Rattle.std.specs.Prelude.{◌≡◌, ◌+◌, ◌-◌, ◌≤◌, ◌<◌, length};
 ghost use Rattle.room.specs.Room.{Plannable, Full, Worked};
 
-use model::SegmentNumber;
+use model::{Geometry, SegmentNumber};
 
 // The segments in use: the smallest number, their count, the first empty slot of the top (or the count of slots, if there
 // is none), and how many compactions would make room.
@@ -36,27 +36,24 @@ fn after(number: SegmentNumber, count: usize) -> SegmentNumber
 // Compacts the oldest segment, as often as it takes.
 fn compact_oldest(
     image: &mut [u8],
-    segments: usize,
-    slots: usize,
+    geometry: Geometry,
     plan: Plan,
     total: usize,
     budget: u64,
 ) -> Room
-    requires { Plannable segments slots plan (length image.old) × Full segments slots plan }
-    ensures { Worked segments slots plan total budget result image.old image.new }
+    requires { Plannable geometry.segments geometry.slots plan (length image.old) × Full geometry.segments geometry.slots plan }
+    ensures { Worked geometry.segments geometry.slots plan total budget result image.old image.new }
 {
     let mut left = budget;
     let mut slot = 0;
-    let mut i: usize = 0;
-    while i < plan.compactions {
+    for i in 0..plan.compactions {
         let old = after(plan.first, i);
         let number = after(plan.first, plan.used + i);
-        let done = compact::compact_segment(image, segments, slots, total, old, number, left);
+        let done = compact::compact_segment(image, geometry, total, old, number, left);
         left = done.left;
         slot = done.copied;
-        i += 1;
     }
-    let first = after(plan.first, i);
+    let first = after(plan.first, plan.compactions);
     let used = plan.used;
     Room {
         left,
@@ -70,18 +67,17 @@ fn compact_oldest(
 // compacted. Each new header carries this total of recoveries' erases on. It goes by the plan: the image may be any of its size.
 pub fn make_room(
     image: &mut [u8],
-    segments: usize,
-    slots: usize,
+    geometry: Geometry,
     plan: Plan,
     total: usize,
     budget: u64,
 ) -> Room
-    requires { Plannable segments slots plan (length image.old) }
-    ensures { Worked segments slots plan total budget result image.old image.new }
+    requires { Plannable geometry.segments geometry.slots plan (length image.old) }
+    ensures { Worked geometry.segments geometry.slots plan total budget result image.old image.new }
 {
     let first = plan.first;
     let used = plan.used;
-    if plan.slot < slots {
+    if plan.slot < geometry.slots {
         return Room {
             left: budget,
             first,
@@ -89,15 +85,8 @@ pub fn make_room(
             slot: plan.slot,
         };
     }
-    if used + 1 < segments {
-        let left = header_steps::open_header(
-            image,
-            segments,
-            slots,
-            total,
-            after(first, used),
-            budget,
-        );
+    if used + 1 < geometry.segments {
+        let left = header_steps::open_header(image, geometry, total, after(first, used), budget);
         return Room {
             left,
             first,
@@ -105,5 +94,5 @@ pub fn make_room(
             slot: 0,
         };
     }
-    compact_oldest(image, segments, slots, plan, total, budget)
+    compact_oldest(image, geometry, plan, total, budget)
 }

@@ -10,18 +10,12 @@ ghost use Rattle.judge.specs.Rows.{pass, see, see_all, no_row, kinds_at, Small};
 use judge::{Ending, Row};
 use model::{BlockNumber, SlotKind};
 
-fn wide(x: u16) -> usize
-    ensures { result ≡ x }
-{
-    x as usize
-}
-
 // Puts a block number into the set of those met, one bit for each. Whether it was there.
 pub fn meet(seen: &mut [u64; 1024], block: BlockNumber) -> bool
     ensures { (result ≡ in_bits 64 seen.old block.0) × (seen.new ≡ put_bit 64 seen.old block.0) }
 {
     let x = block.0;
-    let i = wide(x) / 64;
+    let i = usize::from(x) / 64;
     let k = x % 64;
     let word = seen[i];
     seen[i] = word | (1u64 << k);
@@ -40,6 +34,7 @@ pub fn behind(before: Ending, then: Ending) -> Ending
 }
 
 // An empty slot follows.
+#[tactic(auto, unfolding(judge::specs::Endings::leave_room))]
 fn leave_room(before: Ending) -> Ending
     ensures { result ≡ leave_room before }
 {
@@ -63,24 +58,17 @@ fn live_ending(again: bool) -> Ending
     }
 }
 
-// A row of these counts.
-fn row_of(live: u8, dead: u8, cut: u8, ending: Ending, block: BlockNumber) -> Row
-    ensures { result ≡ record { live = live; dead = dead; cut = cut; ending = ending; block = block } }
-{
-    Row {
-        live,
-        dead,
-        cut,
-        ending,
-        block,
-    }
-}
-
 // A row before its first slot.
 pub fn no_row() -> Row
     ensures { result ≡ no_row }
 {
-    row_of(0, 0, 0, Ending::Full, BlockNumber(0))
+    Row {
+        live: 0,
+        dead: 0,
+        cut: 0,
+        ending: Ending::Full,
+        block: BlockNumber(0),
+    }
 }
 
 // The next slot of a row: it is counted, and the number of a live one is met, whatever came before. A row of 255 has no next.
@@ -88,24 +76,38 @@ fn count(row: Row, kind: SlotKind, seen: &mut [u64; 1024]) -> Row
     requires { Small row 254 }
     ensures { pass result seen.new ≡ see kind (pass row seen.old) }
 {
-    let live = row.live;
-    let dead = row.dead;
-    let cut = row.cut;
-    let ending = row.ending;
-    let block = row.block;
     match kind {
-        SlotKind::Empty => row_of(live, dead, cut, leave_room(ending), block),
-        SlotKind::Torn => row_of(live, dead, cut, behind(ending, Ending::TornLast), block),
-        SlotKind::Live {
-            length: _,
-            block: met,
-        } => {
-            let then = live_ending(meet(seen, met));
-            row_of(live + 1, dead, cut, behind(ending, then), met)
+        SlotKind::Empty => Row {
+            ending: leave_room(row.ending),
+            ..row
+        },
+        SlotKind::Torn => Row {
+            ending: behind(row.ending, Ending::TornLast),
+            ..row
+        },
+        SlotKind::Live { length: _, block } => {
+            let then = live_ending(meet(seen, block));
+            Row {
+                live: row.live + 1,
+                ending: behind(row.ending, then),
+                block,
+                ..row
+            }
         }
-        SlotKind::Dead => row_of(live, dead + 1, cut, behind(ending, Ending::Full), block),
-        SlotKind::Cut => row_of(live, dead, cut + 1, behind(ending, Ending::Full), block),
-        SlotKind::Wrong => row_of(live, dead, cut, Ending::Bad, block),
+        SlotKind::Dead => Row {
+            dead: row.dead + 1,
+            ending: behind(row.ending, Ending::Full),
+            ..row
+        },
+        SlotKind::Cut => Row {
+            cut: row.cut + 1,
+            ending: behind(row.ending, Ending::Full),
+            ..row
+        },
+        SlotKind::Wrong => Row {
+            ending: Ending::Bad,
+            ..row
+        },
     }
 }
 
@@ -115,12 +117,10 @@ pub fn scan_row(image: &[u8], at: usize, slots: usize, seen: &mut [u64; 1024]) -
     ensures { (pass result seen.new ≡ see_all (kinds_at image.now at slots) (pass no_row seen.old)) × Small result slots }
 {
     let mut row = no_row();
-    let mut i: usize = 0;
-    while i < slots {
+    for i in 0..slots {
         let a = at + i * 256;
         let e = a + 256;
         row = count(row, slot::slot_kind(&image[a..e]), seen);
-        i += 1;
     }
     row
 }

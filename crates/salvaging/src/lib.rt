@@ -7,27 +7,20 @@ ghost use Rattle.std.specs.Prelude.{◌≡◌, true, ◌≤◌};
 ghost use Rattle.model.specs.Chip.{right_size};
 ghost use Rattle.text.specs.Buffer.{printed, Wrote, most_text};
 ghost use Rattle.salvage.specs.Salvage.{salvage_text, salvage_outcome};
-ghost use Rattle.meeting.specs.Sheet.{sheet};
 ghost use Rattle.candidates.specs.Gathered.{Gathered};
 
-use model::Answer;
+use meeting::Sheet;
+use model::{Answer, Geometry};
 use text::Printed;
 
 // The whole text, from the buffer's front on.
-fn compose(
-    image: &[u8],
-    segments: usize,
-    slots: usize,
-    places: &[u32],
-    lengths: &[u8; 65536],
-    differs: &[bool; 65536],
-    text: &mut [u8],
-) -> usize
-    requires { (right_size segments slots image.now ≡ true) × Gathered segments slots image.now (sheet places.now lengths.now differs.now) }
+fn compose(image: &[u8], segments: usize, slots: usize, sheet: &Sheet, text: &mut [u8]) -> usize
+    requires { (right_size segments slots image.now ≡ true) × Gathered segments slots image.now sheet.now }
     ensures { Wrote (salvage_text segments slots image.now) text.old 0 text.new result × (result ≤ most_text) }
 {
+    let geometry = Geometry { segments, slots };
     let head = text::add(text, 0, b"salvage promises nothing\n");
-    given_lines::given_lines(image, segments, slots, places, lengths, differs, text, head)
+    given_lines::given_lines(image, geometry, sheet, text, head)
 }
 
 // The report on an image, whatever its damage: for each block number the candidate in the highest segment number, within a
@@ -35,30 +28,24 @@ fn compose(
 pub fn salvage(image: &[u8], segments: usize, slots: usize, text: &mut [u8]) -> Printed
     ensures { (printed result text.new ≡ salvage_outcome segments slots image.now text.old) × (result.length ≤ most_text) }
 {
+    let geometry = Geometry { segments, slots };
     if !request::right_size(image.len(), segments, slots) {
         return Printed {
             answer: Answer::Size,
             length: 0,
         };
     }
-    let mut places = [0u32; 65536];
-    let mut lengths = [0u8; 65536];
-    let mut differs = [false; 65536];
-    candidates::gather(
-        image,
-        segments,
-        slots,
-        &mut places,
-        &mut lengths,
-        &mut differs,
-    );
+    let mut sheet = Sheet {
+        places: [0; 65536],
+        lengths: [0; 65536],
+        differs: [false; 65536],
+    };
+    candidates::gather(image, geometry, &mut sheet);
     // shorter than any text, so that nothing of it matters
     let mut none = [0u8; 1];
-    let length = compose(
-        image, segments, slots, &places, &lengths, &differs, &mut none,
-    );
+    let length = compose(image, segments, slots, &sheet, &mut none);
     if length > text.len() {
         return text::short();
     }
-    text::done(compose(image, segments, slots, &places, &lengths, &differs, text))
+    text::done(compose(image, segments, slots, &sheet, text))
 }

@@ -1,5 +1,5 @@
 -- What a survey of an image says: its state, and what a request needs in that state.
-use Rattle.std.specs.Prelude.{ℕ, ◌+◌, ◌-◌, ◌*◌, ◌≤◌, ◌≡◌, cond, ◌||◌, ◌&&◌, not, List, length, get_or, eqb}
+use Rattle.std.specs.Prelude.{ℕ, ◌+◌, ◌-◌, ◌*◌, ◌≤◌, ◌≡◌, cond, ◌||◌, ◌&&◌, not, List, length, get_or, eqb, Option, None, Some}
 use Rattle.std.proofs.Math.Path.{refl}
 use Rattle.model.specs.Chip.{Image}
 use Rattle.model.specs.State.{Segment, blank, segments_of, is_in_use, is_invalid, next_number, next_index, view_of, entries_in, capacity, last_slot, older, Exception, case_a, case_b, case_c, case_d, State, clean, unfinished, damaged, state_of}
@@ -8,8 +8,7 @@ use Rattle.flash.specs.Pages.{Sized}
 use Rattle.judge.specs.declared.Headers.{Headers}
 use Rattle.sums.specs.declared.Exam.{Exam}
 use Rattle.sums.specs.Exams.{exam_of, Bounded}
-use Rattle.find.specs.declared.Found.{Found}
-use Rattle.find.specs.declared.Found.TheVariants.{At, Nothing}
+use Rattle.find.specs.declared.FoundSlot.{FoundSlot}
 use Rattle.scan.specs.declared.Surveyed.{Surveyed}
 use Rattle.scan.specs.declared.Surveyed.TheVariants.{Clean, TornSegment, ErasePending, TornSlot, OldSlot, Damaged}
 use Rattle.judge.specs.Heads.{headers_of}
@@ -66,9 +65,9 @@ torn_in N B h e = cond (orderly (capacity N B) e.sum) (TornSegment (record { 0 =
 unfoldable pub clean_in : Exam → Surveyed
 clean_in e = Clean (record { 0 = e.first }) e.used e.sum.live e.sum.written e.sum.compactions
 
-unfoldable pub old_in : Found → Surveyed
-old_in (At p n) = OldSlot p
-old_in Nothing = Damaged
+unfoldable pub old_in : Option FoundSlot → Surveyed
+old_in (Some x) = OldSlot x.place
+old_in None = Damaged
 
 -- the headers of an image of a right size, and the segments in use that they tell of, examined
 pub record Looked (N B : ℕ) (s : Image) (h : Headers) (e : Exam) : Type 0 where

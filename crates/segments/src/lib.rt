@@ -9,7 +9,7 @@ ghost use Rattle.judge.specs.Heads.{bare, heads, no_counts, count_one, may_be_fi
 ghost use Rattle.judge.specs.Tally.{Ranged};
 
 use judge::{Frame, HeaderCounts, Headers, SegmentState, Summary};
-use model::{MOST_SEGMENTS, SegmentNumber};
+use model::{Geometry, MOST_SEGMENTS, SegmentNumber};
 
 // Before the first segment.
 pub fn none_counted() -> HeaderCounts
@@ -30,7 +30,7 @@ pub fn count_one(counts: HeaderCounts, s: Summary) -> HeaderCounts
     requires { (counts.used < most_segments) × (counts.next ≤ 4294967296) }
     ensures { (result ≡ count_one counts (bare s)) × (result.used ≤ counts.used + 1) × (result.next ≤ 4294967296) }
 {
-    let next = summary::larger(counts.next, summary::number_after(s));
+    let next = counts.next.max(summary::number_after(s));
     let settled = counts.settled && summary::is_settled(s);
     let all_version_1 = counts.all_version_1 && summary::of_version(s, true);
     let all_version_2 = counts.all_version_2 && summary::of_version(s, false);
@@ -77,13 +77,11 @@ fn see_frame(table: [Summary; MOST_SEGMENTS], segments: usize) -> Frame
     ensures { (result ≡ frame_of segments (heads segments table)) × Ranged result }
 {
     let mut counts = none_counted();
-    let mut i: usize = 0;
-    while i < segments {
+    for i in 0..segments {
         counts = count_one(counts, table[i]);
-        i += 1;
     }
     let used = counts.used;
-    let first = summary::less(counts.next, used);
+    let first = counts.next.saturating_sub(used);
     if !may_be_fine(counts, segments) {
         return Frame {
             first,
@@ -91,8 +89,7 @@ fn see_frame(table: [Summary; MOST_SEGMENTS], segments: usize) -> Frame
             fine: false,
         };
     }
-    let mut k: usize = 0;
-    while k < used {
+    for k in 0..used {
         let number = first + k;
         let index = number % segments;
         if summary::number_after(table[index]) != number + 1 {
@@ -102,7 +99,6 @@ fn see_frame(table: [Summary; MOST_SEGMENTS], segments: usize) -> Frame
                 fine: false,
             };
         }
-        k += 1;
     }
     Frame {
         first,
@@ -154,27 +150,25 @@ fn tell(next: usize, top: Summary, after: Summary, frame: Frame) -> Headers
 }
 
 // What the headers of an image tell. The table is filled, counted and mended here, since a hand-over would copy it.
-pub fn see_headers(image: &[u8], segments: usize, slots: usize) -> Headers
-    requires { Sized segments slots (length image.now) × (2 ≤ segments) }
-    ensures { (result ≡ headers_of segments (segments_of segments slots image.now)) × (result.next ≤ 4294967296) × Ranged result.frame }
+pub fn see_headers(image: &[u8], geometry: Geometry) -> Headers
+    requires { Sized geometry.segments geometry.slots (length image.now) × (2 ≤ geometry.segments) }
+    ensures { (result ≡ headers_of geometry.segments (segments_of geometry.segments geometry.slots image.now)) × (result.next ≤ 4294967296) × Ranged result.frame }
 {
     let none = summary::head(SegmentState::Blank, false, SegmentNumber(0));
     let mut table = [none; MOST_SEGMENTS];
     let mut counts = none_counted();
-    let mut i: usize = 0;
-    while i < segments {
-        let s = summary::see_segment(image, segments, slots, i);
+    for i in 0..geometry.segments {
+        let s = summary::see_segment(image, geometry, i);
         table[i] = s;
         counts = count_one(counts, s);
-        i += 1;
     }
     let next = counts.next;
-    let top_index = summary::less(next, 1) % segments;
-    let after_index = next % segments;
+    let top_index = next.saturating_sub(1) % geometry.segments;
+    let after_index = next % geometry.segments;
     let top = table[top_index];
     let after = table[after_index];
     table[top_index] = settled(top);
     table[after_index] = next_mended(after, top);
-    let frame = see_frame(table, segments);
+    let frame = see_frame(table, geometry.segments);
     tell(next, top, after, frame)
 }

@@ -2,10 +2,8 @@
 // format (request #109), whose image is a file.
 #![tactic(auto)]
 
-ghost use Rattle.io.specs.Counts.{IsPrefixLen};
-
-use qbx_system::{ENAMETOOLONG, STDERR_FILENO, STDOUT_FILENO, System};
-use settings_words::{Command, Reading, Verb};
+use qbx_system::{STDERR_FILENO, STDOUT_FILENO, System};
+use settings_words::{Command, Verb};
 
 // How a command is written.
 fn show_forms(fd: i32) {
@@ -43,30 +41,14 @@ fn usage(fd: i32) {
     show_rules(fd);
 }
 
-// A word of the command line. Of one that is too long the start is given, with dots, so that it means nothing.
-fn word(system: &mut System, i: usize, buf: &mut [u8; 64]) -> usize
-    ensures { IsPrefixLen result buf.new }
-{
-    let n = system.arg(i, buf);
-    if system.reason() == ENAMETOOLONG {
-        buf[61] = b'.';
-        buf[62] = b'.';
-        buf[63] = b'.';
-        return io::count(64, buf);
-    }
-    n
-}
-
 // The data to write are on standard input. A byte more than an item has is read, so that too many are seen.
 fn write(system: &mut System, path: &[u8], layout: &[u8], command: Command) {
     let mut contents = [0u8; 256];
     let mut input = system.stdin();
-    let filled = qbx_files::fill(system, &mut input, &mut contents);
-    if !filled.whole {
+    let Ok(n) = qbx_files::fill(system, &mut input, &mut contents) else {
         io::write_all(STDERR_FILENO, b"settings: cannot read standard input\n");
         return;
-    }
-    let n = filled.count;
+    };
     settings_work::obey(
         system,
         path,
@@ -96,27 +78,17 @@ fn obey(system: &mut System, path: &[u8], layout: &[u8], command: Command) {
 }
 
 fn read_words(system: &mut System, path: &[u8], layout: &[u8]) {
-    let mut partitions = [0u8; 64];
-    let a = word(system, 2, &mut partitions);
-    let mut verb = [0u8; 64];
-    let b = word(system, 4, &mut verb);
-    let mut item = [0u8; 64];
-    let c = word(system, 5, &mut item);
-    let mut option = [0u8; 64];
-    let d = word(system, 6, &mut option);
-    let mut steps = [0u8; 64];
-    let e = word(system, 7, &mut steps);
     let reading = settings_words::command_of(
-        &partitions[..a],
+        system.word(2, &mut [0u8; 64]),
         layout,
-        &verb[..b],
-        &item[..c],
-        &option[..d],
-        &steps[..e],
+        system.word(4, &mut [0u8; 64]),
+        system.word(5, &mut [0u8; 64]),
+        system.word(6, &mut [0u8; 64]),
+        system.word(7, &mut [0u8; 64]),
     );
     match reading {
-        Reading::Right(command) => obey(system, path, layout, command),
-        Reading::Wrong(complaint) => settings_work::complain(complaint, STDERR_FILENO),
+        Ok(command) => obey(system, path, layout, command),
+        Err(complaint) => settings_work::complain(complaint, STDERR_FILENO),
     }
 }
 

@@ -22,11 +22,8 @@ pub fn add_hex(text: &mut [u8], at: usize, bytes: &[u8]) -> usize
     ensures { Wrote (hex bytes.now) text.old at text.new result × (result ≡ at + 2 * length bytes.now) }
 {
     let mut end = at;
-    let mut i = 0;
-    while i < bytes.len() {
-        let digits = [digit(bytes[i] / 16), digit(bytes[i] % 16)];
-        end = text::add(text, end, &digits);
-        i += 1;
+    for &b in bytes {
+        end = text::add(text, end, &[digit(b / 16), digit(b % 16)]);
     }
     end
 }

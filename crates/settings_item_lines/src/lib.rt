@@ -70,7 +70,7 @@ fn item_line(
     let answer = spot.answer;
     let offset = spot.offset;
     let count = spot.length;
-    if partition_store::number_of(answer) == 0 {
+    if u64::from(answer) == 0 {
         let stored = qbx_images::piece(image, offset, count);
         return written_line(text, at, identifier, size, offset, stored);
     }
@@ -89,18 +89,16 @@ pub fn item_lines(
     ensures { Wrote (item_lines (read_outcome partitions layout.now image.now) image.now layout.now) text.old at text.new result × (result ≤ at + 350 * length layout.now) }
 {
     let mut end = at;
-    let mut i = 0;
-    while i + 1 < layout.len() {
+    for i in 0..layout.len() / 2 {
         end = item_line(
             text,
             end,
             image,
             partitions,
             layout,
-            layout[i],
-            layout[i + 1],
+            layout[2 * i],
+            layout[2 * i + 1],
         );
-        i += 2;
     }
     end
 }

@@ -10,7 +10,7 @@ ghost use Rattle.settings_item_lines.specs.ItemLines.{item_lines, most_layout};
 ghost use Rattle.settings_list.specs.BoardList.{partition_line, list_on, list_outcome};
 ghost use Rattle.settings_list.specs.Listing.{most_list, Right, Lists};
 
-use partition_status::Newest;
+use partition_status::NoRun;
 use partitions::Reply;
 use qbx_lines::{Line, add, add_count, empty};
 use settings_item_lines::{add_line, item_lines};
@@ -59,18 +59,17 @@ fn list_board(text: &mut [u8], image: &[u8], partitions: usize, layout: &[u8]) -
     ensures { Lists (list_on partitions layout.now image.now (board.newest_in partitions (length image.now / partitions) image.now)) result text.old text.new }
 {
     let size = image.len() / partitions;
-    let newest = partition_status::find_newest(image, partitions, size);
-    match newest {
-        Newest::Nothing => {
+    match partition_status::find_newest(image, partitions, size) {
+        Ok(None) => {
             let begun = text::add(text, 0, b"nothing written\n");
             list_items(text, begun, image, partitions, layout)
         }
-        Newest::At(partition) => {
+        Ok(Some(partition)) => {
             let status = partition_status::status_of(image, size, partition);
             let begun = add_line(text, 0, partition_line(partition, status));
             list_items(text, begun, image, partitions, layout)
         }
-        Newest::NoRun => refused(Reply::Statuses),
+        Err(NoRun) => refused(Reply::Statuses),
     }
 }
 

@@ -1,15 +1,7 @@
 -- Numbers from 0 to 255, read from decimal digits.
-use Rattle.std.specs.Prelude.{ℕ, cond, List, ltb}
-use Rattle.qbx_numbers.specs.Number.{number_of}
-use Rattle.qbx_numbers.specs.declared.Parsed.{Parsed}
-use Rattle.qbx_numbers.specs.declared.Parsed.TheVariants.{Number, NoNumber}
-use Rattle.settings_numbers.specs.declared.ParsedByte.{ParsedByte}
-use Rattle.settings_numbers.specs.declared.ParsedByte.TheVariants.{Byte, NoByte}
+use Rattle.std.specs.Prelude.{ℕ, List, Option}
+use Rattle.qbx_numbers.specs.Number.{fits, number_of}
 
 -- a number that fits a byte
-unfoldable pub fits_byte : Parsed → ParsedByte
-fits_byte (Number n) = cond (ltb n 256) (Byte n) NoByte
-fits_byte NoNumber = NoByte
-
-unfoldable pub byte_of : List ℕ → ParsedByte
-byte_of w = fits_byte (number_of w)
+unfoldable pub byte_of : List ℕ → Option ℕ
+byte_of w = fits 256 (number_of w)

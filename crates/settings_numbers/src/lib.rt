@@ -4,24 +4,12 @@
 ghost use Rattle.std.specs.Prelude.{◌≡◌};
 ghost use Rattle.settings_numbers.specs.Byte.{byte_of};
 
-use qbx_numbers::{Parsed, number};
-
-#[derive(Clone, Copy)]
-pub enum ParsedByte {
-    Byte(u8),
-    NoByte,
-}
+use qbx_numbers::number;
 
 // A number as `number` reads it, if it is 0 to 255.
-#[tactic(auto, unfolding(crate::specs::Byte::byte_of, crate::specs::Byte::fits_byte))]
-pub fn byte(word: &[u8]) -> ParsedByte
+#[tactic(auto, unfolding(crate::specs::Byte::byte_of, qbx_numbers::specs::Number::fits))]
+pub fn byte(word: &[u8]) -> Option<u8>
     ensures { result ≡ byte_of word.now }
 {
-    let Parsed::Number(n) = number(word) else {
-        return ParsedByte::NoByte;
-    };
-    if n >= 256 {
-        return ParsedByte::NoByte;
-    }
-    ParsedByte::Byte(n as u8)
+    u8::try_from(number(word)?).ok()
 }

@@ -32,7 +32,7 @@ fn add_reason(line: Line, answer: Reply) -> Line
 fn say_reply(answer: Reply) -> Line
     ensures { (said result ≡ reply_text answer) × (result.count ≤ 40) }
 {
-    let number = partition_store::number_of(answer);
+    let number = u64::from(answer);
     let begun = qbx_says::add_verdict(empty(), number);
     add_reason(add_number(begun, number), answer)
 }
@@ -43,7 +43,7 @@ fn add_board(line: Line, answer: Reply, there: u64) -> Line
     requires { line.count ≤ 70 }
     ensures { Added line (board_text (number_of answer) there) result × (result.count ≤ line.count + 110) }
 {
-    if partition_store::number_of(answer) == 1 {
+    if u64::from(answer) == 1 {
         let counted = add_count(
             line,
             b": P is a power of two from 2 to 128 that divides the image; ",

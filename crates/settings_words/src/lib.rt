@@ -5,9 +5,9 @@
 ghost use Rattle.std.specs.Prelude.{◌≡◌};
 ghost use Rattle.settings_words.specs.Command.{writes, ended, with_budget, of_item, of_list, command_of};
 
-use qbx_numbers::{Parsed, number};
+use qbx_numbers::number;
 use qbx_words::{is, is_missing};
-use settings_numbers::{ParsedByte, byte};
+use settings_numbers::byte;
 
 #[derive(Clone, Copy)]
 pub enum Verb {
@@ -36,81 +36,66 @@ pub enum Complaint {
     Budget,
 }
 
-#[derive(Clone, Copy)]
-pub enum Reading {
-    Right(Command),
-    Wrong(Complaint),
-}
-
+#[tactic(auto, unfolding(crate::specs::Command::writes))]
 fn writes(verb: Verb) -> bool
     ensures { result ≡ writes verb }
 {
-    match verb {
-        Verb::Read => false,
-        Verb::Write => true,
-        Verb::List => false,
-    }
+    matches!(verb, Verb::Write)
 }
 
 // A command with no option: nothing may stand in place of its steps.
-fn ended(command: Command, steps: &[u8]) -> Reading
+#[tactic(auto, unfolding(crate::specs::Command::ended))]
+fn ended(command: Command, steps: &[u8]) -> Result<Command, Complaint>
     ensures { result ≡ ended command steps.now }
 {
     if is_missing(steps) {
-        return Reading::Right(command);
+        return Ok(command);
     }
-    Reading::Wrong(Complaint::NoOption)
+    Err(Complaint::NoOption)
 }
 
 // The option at the end.
-#[tactic(auto, unfolding(crate::specs::Command::with_budget, crate::specs::Command::as_number, text::specs::Text::text))]
-fn with_budget(command: Command, option: &[u8], steps: &[u8]) -> Reading
+#[tactic(auto, unfolding(crate::specs::Command::with_budget, qbx_numbers::specs::Number::as_number, text::specs::Text::text))]
+fn with_budget(command: Command, option: &[u8], steps: &[u8]) -> Result<Command, Complaint>
     ensures { result ≡ with_budget command option.now steps.now }
 {
     if is_missing(option) {
         return ended(command, steps);
     }
-    if !is(option, b"--budget") {
-        return Reading::Wrong(Complaint::NoOption);
+    if !is(option, b"--budget") || !writes(command.verb) {
+        return Err(Complaint::NoOption);
     }
-    let verb = command.verb;
-    if !writes(verb) {
-        return Reading::Wrong(Complaint::NoOption);
-    }
-    let Parsed::Number(budget) = number(steps) else {
-        return Reading::Wrong(Complaint::Budget);
-    };
-    Reading::Right(Command {
-        partitions: command.partitions,
-        verb,
-        item: command.item,
-        budget,
-    })
+    let budget = number(steps).ok_or(Complaint::Budget)?;
+    Ok(Command { budget, ..command })
 }
 
 // The words after a verb that names an item.
-#[tactic(auto, unfolding(crate::specs::Command::of_item, crate::specs::Command::as_byte))]
-fn of_item(partitions: u64, verb: Verb, item: &[u8], option: &[u8], steps: &[u8]) -> Reading
+#[tactic(auto, unfolding(crate::specs::Command::of_item, qbx_numbers::specs::Number::as_number))]
+fn of_item(
+    partitions: u64,
+    verb: Verb,
+    item: &[u8],
+    option: &[u8],
+    steps: &[u8],
+) -> Result<Command, Complaint>
     ensures { result ≡ of_item partitions verb item.now option.now steps.now }
 {
-    let ParsedByte::Byte(number) = byte(item) else {
-        return Reading::Wrong(Complaint::Item);
-    };
     let command = Command {
         partitions,
         verb,
-        item: number,
+        item: byte(item).ok_or(Complaint::Item)?,
         budget: u64::MAX,
     };
     with_budget(command, option, steps)
 }
 
 // The words after list: there are none.
-fn of_list(partitions: u64, item: &[u8], option: &[u8], steps: &[u8]) -> Reading
+#[tactic(auto, unfolding(crate::specs::Command::of_list))]
+fn of_list(partitions: u64, item: &[u8], option: &[u8], steps: &[u8]) -> Result<Command, Complaint>
     ensures { result ≡ of_list partitions item.now option.now steps.now }
 {
     if !is_missing(item) {
-        return Reading::Wrong(Complaint::NoOption);
+        return Err(Complaint::NoOption);
     }
     let command = Command {
         partitions,
@@ -122,7 +107,7 @@ fn of_list(partitions: u64, item: &[u8], option: &[u8], steps: &[u8]) -> Reading
 }
 
 // The words after the image's name; those that are missing are empty.
-#[tactic(auto, unfolding(crate::specs::Command::command_of, crate::specs::Command::as_number, text::specs::Text::text))]
+#[tactic(auto, unfolding(crate::specs::Command::command_of, qbx_numbers::specs::Number::as_number, text::specs::Text::text))]
 pub fn command_of(
     partitions: &[u8],
     layout: &[u8],
@@ -130,14 +115,12 @@ pub fn command_of(
     item: &[u8],
     option: &[u8],
     steps: &[u8],
-) -> Reading
+) -> Result<Command, Complaint>
     ensures { result ≡ command_of partitions.now layout.now verb.now item.now option.now steps.now }
 {
-    let Parsed::Number(p) = number(partitions) else {
-        return Reading::Wrong(Complaint::Partitions);
-    };
+    let p = number(partitions).ok_or(Complaint::Partitions)?;
     if is_missing(layout) {
-        return Reading::Wrong(Complaint::NoLayout);
+        return Err(Complaint::NoLayout);
     }
     if is(verb, b"read") {
         return of_item(p, Verb::Read, item, option, steps);
@@ -148,5 +131,5 @@ pub fn command_of(
     if is(verb, b"list") {
         return of_list(p, item, option, steps);
     }
-    Reading::Wrong(Complaint::NoVerb)
+    Err(Complaint::NoVerb)
 }

@@ -4,7 +4,7 @@
 
 use qbx_out::print;
 use qbx_same::Clash;
-use qbx_share_file::Listing;
+use qbx_share_file::WrongLine;
 use qbx_system::System;
 use settings_list::MOST_LIST;
 use settings_says::say_answer;
@@ -76,7 +76,7 @@ fn list(system: &mut System, image: &[u8], layout: &[u8], command: Command, out:
     let listed = settings_request::list(&mut text, image, layout, command);
     let answer = listed.answer;
     let n = listed.length;
-    if partition_store::number_of(answer) != 0 {
+    if u64::from(answer) != 0 {
         print(err, say_answer(answer, image.len() as u64));
         return;
     }
@@ -115,11 +115,10 @@ fn work(
     out: i32,
     err: i32,
 ) {
-    let file = qbx_images::present(system, image, path, 0, false);
-    if !file.whole {
+    let Some(file) = qbx_images::present(system, image, path, 0, false) else {
         fail(system, err, b"read ", path);
         return;
-    }
+    };
     let n = file.count;
     if n > MOST_IMAGE {
         io::write_all(err, b"settings: IMAGE is longer than 1048576 bytes\n");
@@ -163,11 +162,10 @@ fn on_layout(
     err: i32,
 ) {
     let mut text = [0u8; MOST_TEXT + 1];
-    let file = qbx_images::present(system, &mut text, layout_path, 0, false);
-    if !file.whole {
+    let Some(file) = qbx_images::present(system, &mut text, layout_path, 0, false) else {
         fail(system, err, b"read ", layout_path);
         return;
-    }
+    };
     let n = file.count;
     if n > MOST_TEXT {
         io::write_all(err, b"settings: LAYOUT is longer than 4096 bytes\n");
@@ -176,16 +174,8 @@ fn on_layout(
     let mut layout = [0u8; MOST_LAYOUT];
     let listing = settings_layout_file::read_layout(&text[..n], &mut layout);
     match listing {
-        Listing::Listed(count) => on_image(
-            system,
-            path,
-            &layout[..count],
-            command,
-            contents,
-            out,
-            err,
-        ),
-        Listing::Wrong(line) => print(err, settings_says::say_wrong_line(line)),
+        Ok(count) => on_image(system, path, &layout[..count], command, contents, out, err),
+        Err(WrongLine(line)) => print(err, settings_says::say_wrong_line(line)),
     }
 }
 

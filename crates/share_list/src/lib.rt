@@ -41,12 +41,10 @@ fn ranges_ok(shares: &[u32]) -> bool
     requires { Stands shares.now 0 }
     ensures { result ≡ all range_ok (shares_of shares.now) }
 {
-    let mut at = 0;
-    while at < shares.len() {
+    for at in (0..shares.len()).step_by(3) {
         if !range_ok(shares[at], shares[at + 1]) {
             return false;
         }
-        at += 3;
     }
     true
 }
@@ -67,12 +65,10 @@ fn apart(shares: &[u32], one: usize) -> bool
     requires { Stands shares.now one × (one < length shares.now) }
     ensures { result ≡ clear_of shares.now one (one + 3) }
 {
-    let mut other = one + 3;
-    while other < shares.len() {
+    for other in (one + 3..shares.len()).step_by(3) {
         if overlaps(shares, one, other) {
             return false;
         }
-        other += 3;
     }
     true
 }
@@ -82,12 +78,10 @@ fn all_apart(shares: &[u32]) -> bool
     requires { Stands shares.now 0 }
     ensures { result ≡ disjoint (shares_of shares.now) }
 {
-    let mut at = 0;
-    while at < shares.len() {
+    for at in (0..shares.len()).step_by(3) {
         if !apart(shares, at) {
             return false;
         }
-        at += 3;
     }
     true
 }
@@ -98,10 +92,8 @@ fn quota_sum(shares: &[u32]) -> u64
     ensures { result ≡ quota_sum (shares_of shares.now) }
 {
     let mut sum: u64 = 0;
-    let mut at = 0;
-    while at < shares.len() {
+    for at in (0..shares.len()).step_by(3) {
         sum += shares[at + 2] as u64;
-        at += 3;
     }
     sum
 }

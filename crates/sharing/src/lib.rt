@@ -10,7 +10,6 @@ ghost use Rattle.shares.specs.Layer.{puts, deletes, reads, share_outcome, wrote,
 ghost use Rattle.share_list.specs.Places.{share_in};
 ghost use Rattle.sharing.specs.Within.{outcome_within};
 
-use admission::Admitted;
 use model::{Answer, BlockNumber};
 use share_list::Part;
 use text::Printed;
@@ -57,8 +56,8 @@ pub fn put(
 {
     let admitted = admission::admit(&image[..], segments, slots, shares, tenant, block);
     match admitted {
-        Admitted::Refused(answer) => answer,
-        Admitted::Part(part) => put_within(image, segments, slots, part, block, contents),
+        Err(answer) => answer,
+        Ok(part) => put_within(image, segments, slots, part, block, contents),
     }
 }
 
@@ -75,7 +74,7 @@ pub fn delete(
     ensures { wrote result image.new ≡ share_outcome segments slots shares.now image.old tenant (deletes block.0) }
 {
     let admitted = admission::admit(&image[..], segments, slots, shares, tenant, block);
-    if let Admitted::Refused(answer) = admitted {
+    if let Err(answer) = admitted {
         return answer;
     }
     let performed = store::delete(image, segments, slots, block, ALL_STEPS);
@@ -97,7 +96,7 @@ pub fn read(
     ensures { (printed result contents.new ≡ gave_in (share_outcome segments slots shares.now image.now tenant (reads block.0 (length contents.old))) contents.old) × (result.length ≤ most_contents) }
 {
     let admitted = admission::admit(image, segments, slots, shares, tenant, block);
-    if let Admitted::Refused(answer) = admitted {
+    if let Err(answer) = admitted {
         return Printed { answer, length: 0 };
     }
     let located = store::read(image, segments, slots, block);

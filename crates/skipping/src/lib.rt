@@ -23,6 +23,7 @@ pub fn pass_empty(places: &[u32], from: usize) -> usize
     requires { (least_places ≤ length places.now) × (from ≤ least_places) }
     ensures { Passed places.now from result }
 {
+    // Kept: steps of eight, and where they stop is the answer, which `step_by` does not tell once it has run through.
     let mut block = from;
     while block < LAST_EIGHT {
         let end = block + 8;

@@ -11,32 +11,19 @@ ghost use Rattle.slot.specs.Parts.{slot_parts};
 use model::{BlockNumber, SlotKind, SlotPlace};
 
 // Status bytes, by the names of the model's definitions.
-const WRITE_BEGUN: u8 = 0x7F;
+pub const WRITE_BEGUN: u8 = 0x7F;
 
 pub const WRITTEN: u8 = 0x3F;
 
-const DEAD: u8 = 0x1F;
+pub const DEAD: u8 = 0x1F;
 
-const CUT: u8 = 0x5F;
+pub const CUT: u8 = 0x5F;
 
 // Programmed over a status, this clears bit 5.
 const MARK_DEAD: u8 = 0xDF;
 
 // The most bytes of contents in a slot.
 const MOST_CONTENTS: usize = 248;
-
-fn wide(x: u8) -> usize
-    ensures { result ≡ x }
-{
-    x as usize
-}
-
-// Two bytes as a number, low byte first.
-fn word(low: u8, high: u8) -> u16
-    ensures { result ≡ low + 256 * high }
-{
-    low as u16 + 256 * (high as u16)
-}
 
 // ---- taken apart
 
@@ -45,11 +32,11 @@ fn slot_fits(page: &[u8]) -> bool
     requires { (length page.now ≡ 256) × (get_or page.now 0 0 ≡ written) }
     ensures { result ≡ slot_fits page.now }
 {
-    let length = wide(page[1]);
+    let length = usize::from(page[1]);
     if length > MOST_CONTENTS {
         return false;
     }
-    let block = word(page[2], page[3]);
+    let block = u16::from_le_bytes([page[2], page[3]]);
     if block == 0 {
         return false;
     }
@@ -74,8 +61,8 @@ pub fn slot_kind(page: &[u8]) -> SlotKind
     if status == WRITTEN {
         if slot_fits(page) {
             return SlotKind::Live {
-                length: wide(page[1]),
-                block: BlockNumber(word(page[2], page[3])),
+                length: usize::from(page[1]),
+                block: BlockNumber(u16::from_le_bytes([page[2], page[3]])),
             };
         }
         return SlotKind::Wrong;
@@ -107,13 +94,8 @@ fn slot_page(block: BlockNumber, contents: &[u8]) -> [u8; 256]
     let mut page = [255u8; 256];
     page[0] = WRITTEN;
     page[1] = contents.len() as u8;
-    page[2] = (block.0 % 256) as u8;
-    page[3] = (block.0 / 256) as u8;
-    let mut i = 0;
-    while i < contents.len() {
-        page[8 + i] = contents[i];
-        i += 1;
-    }
+    page[2..4].copy_from_slice(&block.0.to_le_bytes());
+    page[8..8 + contents.len()].copy_from_slice(contents);
     page
 }
 

@@ -9,13 +9,9 @@ ghost use Rattle.std.specs.Prelude.{◌≡◌, false};
 ghost use Rattle.model.specs.Answers.{performed, outcome_of, format, put, delete, recover, located, read_outcome, piece_or, counted, count_outcome};
 
 use counting::Sought;
-use looking::Looked;
-use model::{Answer, BlockNumber, Counted, Located, Performed, SegmentNumber};
+use model::{Answer, BlockNumber, Counted, Geometry, Located, Performed, SegmentNumber};
 use room::Plan;
 use scan::Surveyed;
-
-// The number of the answer that a block is not stored.
-const ABSENT: u8 = 6;
 
 // How many steps open a segment.
 const OPENING: u64 = 21;
@@ -24,11 +20,12 @@ const OPENING: u64 = 21;
 pub fn format(image: &mut [u8], segments: usize, slots: usize, budget: u64) -> Performed
     ensures { performed result image.new ≡ outcome_of segments slots image.old budget format }
 {
+    let geometry = Geometry { segments, slots };
     if !request::right_size(image.len(), segments, slots) {
         return request::refused(Answer::Size);
     }
-    let erased = erasing::erase_all(image, segments, slots, budget);
-    let left = header_steps::open_header(image, segments, slots, 0, SegmentNumber(0), erased);
+    let erased = erasing::erase_all(image, geometry, budget);
+    let left = header_steps::open_header(image, geometry, 0, SegmentNumber(0), erased);
     request::finished(budget, left, erased, OPENING)
 }
 
@@ -43,6 +40,7 @@ pub fn put(
 ) -> Performed
     ensures { performed result image.new ≡ outcome_of segments slots image.old budget (put block.0 contents.now) }
 {
+    let geometry = Geometry { segments, slots };
     if !request::right_size(image.len(), segments, slots) {
         return request::refused(Answer::Size);
     }
@@ -52,7 +50,7 @@ pub fn put(
     if !request::length_ok(contents.len()) {
         return request::refused(Answer::Length);
     }
-    let surveyed = scan::survey(&image[..], segments, slots);
+    let surveyed = scan::survey(&image[..], geometry);
     let Surveyed::Clean {
         first,
         used,
@@ -69,7 +67,7 @@ pub fn put(
         slot: free,
         compactions,
     };
-    put::put_clean(image, segments, slots, plan, live, block, contents, budget)
+    put::put_clean(image, geometry, plan, live, block, contents, budget)
 }
 
 // Deletes a block: its slot is marked dead.
@@ -84,8 +82,8 @@ pub fn delete(
 {
     let looked = looking::look(&image[..], segments, slots, block);
     match looked {
-        Looked::Refused(answer) => request::refused(answer),
-        Looked::At(place, _) => mend::mark_slot(image, place, budget),
+        Err(answer) => request::refused(answer),
+        Ok(old) => mend::mark_slot(image, old.place, budget),
     }
 }
 
@@ -96,15 +94,15 @@ pub fn read(image: &[u8], segments: usize, slots: usize, block: BlockNumber) -> 
 {
     let looked = looking::look(image, segments, slots, block);
     match looked {
-        Looked::Refused(answer) => Located {
+        Err(answer) => Located {
             answer,
             offset: 0,
             length: 0,
         },
-        Looked::At(place, length) => Located {
+        Ok(slot) => Located {
             answer: Answer::Done,
-            offset: place.0 + 8,
-            length,
+            offset: slot.place.0 + 8,
+            length: slot.length,
         },
     }
 }
@@ -124,18 +122,17 @@ pub fn read_or<'a>(
 {
     let looked = looking::look(image, segments, slots, block);
     match looked {
-        Looked::Refused(answer) => {
-            let number = request::code_of(answer);
-            *code = number;
-            if number == ABSENT {
+        Err(answer) => {
+            *code = request::code_of(answer);
+            if let Answer::Absent = answer {
                 return factory;
             }
             &image[0..0]
         }
-        Looked::At(place, length) => {
+        Ok(slot) => {
             *code = 0;
-            let start = place.0 + 8;
-            let end = start + length;
+            let start = slot.place.0 + 8;
+            let end = start + slot.length;
             &image[start..end]
         }
     }
@@ -163,22 +160,21 @@ pub fn count(
 ) -> Counted
     ensures { counted result ≡ count_outcome segments slots image.now first.0 last.0 block.0 }
 {
+    let geometry = Geometry { segments, slots };
     if !request::right_size(image.len(), segments, slots) {
         return uncounted(Answer::Size);
     }
-    let surveyed = scan::survey(image, segments, slots);
+    let surveyed = scan::survey(image, geometry);
     let Surveyed::Clean {
         first: oldest,
         used,
-        live: _,
-        free: _,
-        compactions: _,
+        ..
     } = surveyed
     else {
         return uncounted(looking::check::state_answer(surveyed));
     };
     let sought = Sought { first, last, block };
-    let met = counting::count_live(image, segments, slots, oldest, used, sought);
+    let met = counting::count_live(image, geometry, oldest, used, sought);
     Counted {
         answer: Answer::Done,
         blocks: met.blocks,
@@ -190,9 +186,10 @@ pub fn count(
 pub fn recover(image: &mut [u8], segments: usize, slots: usize, budget: u64) -> Performed
     ensures { performed result image.new ≡ outcome_of segments slots image.old budget recover }
 {
+    let geometry = Geometry { segments, slots };
     if !request::right_size(image.len(), segments, slots) {
         return request::refused(Answer::Size);
     }
-    let surveyed = scan::survey(&image[..], segments, slots);
-    mend::mend(image, segments, slots, surveyed, budget)
+    let surveyed = scan::survey(&image[..], geometry);
+    mend::mend(image, geometry, surveyed, budget)
 }

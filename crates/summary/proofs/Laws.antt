@@ -1,7 +1,7 @@
 -- A segment seen by its header.
 use Prim.Native.Nat.{ℕ, ◌+◌, ◌-◌, ◌*◌, ◌≤◌, ◌<◌}
 use mathlib.Core.Path.{◌≡◌, refl, sym, ap, ◌∙◌}
-use mathlib.Core.Bool.{Bool, true, false, cond, not, true≢false, false≢true}
+use mathlib.Core.Bool.{Bool, true, false, cond, beq, true≢false, false≢true}
 use mathlib.Core.List.{List, []}
 use native.Mathlib.Omega.{arith}
 use native.Mathlib.Nat.{mul-le-mul_right, suc-mul}
@@ -11,9 +11,8 @@ use Rattle.model.specs.Chip.{Image, Page}
 use Rattle.model.specs.Header.{erase_pending, compacted, version_number, is_former, header_version, header_status, header_number, header_in_use, is_blank}
 use Rattle.model.specs.Slot.{Slot}
 use Rattle.model.specs.State.{blank, invalid, in_use, segments_of, is_in_use, of_version}
-use Rattle.model.specs.declared.SegmentNumber.{SegmentNumber}
-use Rattle.header_seen.specs.declared.HeaderSeen.{HeaderSeen}
-use Rattle.header_seen.specs.declared.HeaderSeen.TheVariants.{InUse, NotInUse}
+use Rattle.std.specs.Prelude.{Option, Some, None}
+use Rattle.header_seen.specs.declared.HeaderInUse.{HeaderInUse}
 use Rattle.header_seen.specs.Seen.{header_seen}
 use Rattle.judge.specs.declared.SegmentState.{SegmentState}
 use Rattle.judge.specs.declared.SegmentState.TheVariants.{Blank, Invalid, Owing}
@@ -23,14 +22,14 @@ use Rattle.judge.specs.Heads.{bare_version, bare_of, outline, state_seen}
 
 -- ---- the version that a summary shows
 
-of_version_lem : (t f : Bool) → cond f t (not t) ≡ eqb (version_number (bare_version t)) (cond f 1 2)
+of_version_lem : (t f : Bool) → beq t f ≡ eqb (version_number (bare_version t)) (cond f 1 2)
 unfolding bare_version version_number
 of_version_lem true true = refl
 of_version_lem true false = refl
 of_version_lem false true = refl
 of_version_lem false false = refl
 
-pub version_used : (x : SegmentState) (t f : Bool) (n : ℕ) → is_in_use (bare_of x t n) ≡ true → cond f t (not t) ≡ of_version (cond f 1 2) (bare_of x t n)
+pub version_used : (x : SegmentState) (t f : Bool) (n : ℕ) → is_in_use (bare_of x t n) ≡ true → beq t f ≡ of_version (cond f 1 2) (bare_of x t n)
 unfolding bare_of is_in_use of_version
 version_used Blank t f n h = absurd (false≢true h)
 version_used Invalid t f n h = absurd (false≢true h)
@@ -51,25 +50,25 @@ pub segment_inside : (N B i : ℕ) → i < N → i * (B + 1) * 256 + (B + 1) * 2
 segment_inside N B i h = omega (arith, suc-mul i (B + 1), mul-le-mul_right (B + 1) h)
 
 module _ (N B i : ℕ) (h : Page) (t : Bool) (ks : List Slot) where
-  outline_used : (f : Bool) (st : ℕ) (n : SegmentNumber) → header_seen N B i h ≡ InUse f st n → outline (segment_seen N B i h t ks) ≡ bare_of (state_seen st) f n.0
+  outline_used : (x : HeaderInUse) → header_seen N B i h ≡ Some x → outline (segment_seen N B i h t ks) ≡ bare_of (state_seen x.status) x.former x.number.0
   unfolding header_seen segment_seen outline state_seen
-  outline_used f st n e = go (header_in_use N B i h) e
+  outline_used x e = go (header_in_use N B i h) e
     where
-      state : (b : Bool) (m : ℕ) → in_use (bare_version f) (cond b erase_pending compacted) m [] ≡ bare_of (cond b Owing Rattle.judge.specs.declared.SegmentState.TheVariants.InUse) f m
+      state : (b : Bool) (m : ℕ) → in_use (bare_version x.former) (cond b erase_pending compacted) m [] ≡ bare_of (cond b Owing Rattle.judge.specs.declared.SegmentState.TheVariants.InUse) x.former m
       state true m = unfold bare_of in refl
       state false m = unfold bare_of in refl
 
-      go : (b : Bool) → cond b (InUse (is_former (header_version h)) (header_status h) (record { 0 = header_number h })) NotInUse ≡ InUse f st n
-          → outline (cond b (in_use (header_version h) (header_status h) (header_number h) ks) (cond t blank invalid)) ≡ bare_of (cond (eqb st erase_pending) Owing Rattle.judge.specs.declared.SegmentState.TheVariants.InUse) f n.0
+      go : (b : Bool) → cond {A = Option HeaderInUse} b (Some (record { former = is_former (header_version h); status = header_status h; number = record { 0 = header_number h } })) None ≡ Some x
+          → outline (cond b (in_use (header_version h) (header_status h) (header_number h) ks) (cond t blank invalid)) ≡ bare_of (cond (eqb x.status erase_pending) Owing Rattle.judge.specs.declared.SegmentState.TheVariants.InUse) x.former x.number.0
       go true q =
-          let v : is_former (header_version h) ≡ f = cc in
-          let a : header_status h ≡ st = cc in
-          let b : ◌≡◌ {A = SegmentNumber} (record { 0 = header_number h }) n = cc in
-          let m : header_number h ≡ n.0 = ap (λ (x : SegmentNumber). x.0) b in
-          rw (v, a, m) (state (eqb st erase_pending) n.0)
+          let r : ◌≡◌ {A = HeaderInUse} (record { former = is_former (header_version h); status = header_status h; number = record { 0 = header_number h } }) x = cc in
+          let m : header_number h ≡ x.number.0 = ap (λ (y : HeaderInUse). y.number.0) r in
+          let v : is_former (header_version h) ≡ x.former = ap (λ (y : HeaderInUse). y.former) r in
+          let a : header_status h ≡ x.status = ap (λ (y : HeaderInUse). y.status) r in
+          rw (v, a, m) (state (eqb x.status erase_pending) x.number.0)
       go false q = absurd (let z : ◌≡◌ {A = ℕ} 0 1 = cc in omega arith)
 
-  outline_unused : header_seen N B i h ≡ NotInUse → outline (segment_seen N B i h t ks) ≡ cond t blank invalid
+  outline_unused : header_seen N B i h ≡ None → outline (segment_seen N B i h t ks) ≡ cond t blank invalid
   unfolding header_seen segment_seen outline
   outline_unused e = go (header_in_use N B i h) e
     where
@@ -77,7 +76,7 @@ module _ (N B i : ℕ) (h : Page) (t : Bool) (ks : List Slot) where
       same true = refl
       same false = refl
 
-      go : (b : Bool) → cond b (InUse (is_former (header_version h)) (header_status h) (record { 0 = header_number h })) NotInUse ≡ NotInUse
+      go : (b : Bool) → cond {A = Option HeaderInUse} b (Some (record { former = is_former (header_version h); status = header_status h; number = record { 0 = header_number h } })) None ≡ None
           → outline (cond b (in_use (header_version h) (header_status h) (header_number h) ks) (cond t blank invalid)) ≡ cond t blank invalid
       go true q = absurd (let z : ◌≡◌ {A = ℕ} 0 1 = cc in omega arith)
       go false q = same t
@@ -90,12 +89,12 @@ module _ (N B i : ℕ) (s : Image) (h : i < N) where
   whole_is : take (i * (B + 1) * 256 + (B + 1) * 256 - i * (B + 1) * 256) (drop (i * (B + 1) * 256) s) ≡ take ((B + 1) * 256) (drop (header_offset B i) s)
   whole_is = let e : i * (B + 1) * 256 + (B + 1) * 256 - i * (B + 1) * 256 ≡ (B + 1) * 256 = omega arith in rw e
 
-  pub seen_in_use : (r : HeaderSeen) (f : Bool) (st : ℕ) (n : SegmentNumber) → r ≡ header_seen N B i (take (i * (B + 1) * 256 + 256 - i * (B + 1) * 256) (drop (i * (B + 1) * 256) s)) → r ≡ InUse f st n
-      → bare_of (state_seen st) f n.0 ≡ outline (get_or (segments_of N B s) i blank)
-  seen_in_use r f st n e q = sym (ap outline (segment_seen_lem N B i s h) ∙ outline_used N B i (take 256 (drop (header_offset B i) s)) (is_blank (take ((B + 1) * 256) (drop (header_offset B i) s))) (slots_at s (slots_offset B i) B) f st n
+  pub seen_in_use : (r : Option HeaderInUse) (x : HeaderInUse) → r ≡ header_seen N B i (take (i * (B + 1) * 256 + 256 - i * (B + 1) * 256) (drop (i * (B + 1) * 256) s)) → r ≡ Some x
+      → bare_of (state_seen x.status) x.former x.number.0 ≡ outline (get_or (segments_of N B s) i blank)
+  seen_in_use r x e q = sym (ap outline (segment_seen_lem N B i s h) ∙ outline_used N B i (take 256 (drop (header_offset B i) s)) (is_blank (take ((B + 1) * 256) (drop (header_offset B i) s))) (slots_at s (slots_offset B i) B) x
       (sym (e ∙ ap (header_seen N B i) page_is) ∙ q))
 
-  pub seen_unused : (r : HeaderSeen) (t : Bool) → r ≡ header_seen N B i (take (i * (B + 1) * 256 + 256 - i * (B + 1) * 256) (drop (i * (B + 1) * 256) s)) → r ≡ NotInUse
+  pub seen_unused : (r : Option HeaderInUse) (t : Bool) → r ≡ header_seen N B i (take (i * (B + 1) * 256 + 256 - i * (B + 1) * 256) (drop (i * (B + 1) * 256) s)) → r ≡ None
       → t ≡ is_blank (take (i * (B + 1) * 256 + (B + 1) * 256 - i * (B + 1) * 256) (drop (i * (B + 1) * 256) s)) → cond t blank invalid ≡ outline (get_or (segments_of N B s) i blank)
   seen_unused r t e q f = ap (λ (x : Bool). cond x blank invalid) (f ∙ ap is_blank whole_is)
       ∙ sym (ap outline (segment_seen_lem N B i s h) ∙ outline_unused N B i (take 256 (drop (header_offset B i) s)) (is_blank (take ((B + 1) * 256) (drop (header_offset B i) s))) (slots_at s (slots_offset B i) B)

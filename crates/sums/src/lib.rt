@@ -11,7 +11,7 @@ ghost use Rattle.judge.specs.Parts.{rows_on};
 ghost use Rattle.judge.specs.Tally.{none_met, tallies, summary_of, summaries_of, row_of, written_in, most_written, add_row, add_rows, no_sum, Few, Ranged};
 
 use judge::{Ending, Frame, Row, SegmentState, Sum, Summary};
-use model::{BlockNumber, MOST_SEGMENTS, SegmentNumber};
+use model::{BlockNumber, Geometry, MOST_SEGMENTS, SegmentNumber};
 
 // The segments in use that a table of summaries shows, and their rows added up.
 #[derive(Clone, Copy)]
@@ -19,12 +19,6 @@ pub struct Exam {
     pub first: usize,
     pub used: usize,
     pub sum: Sum,
-}
-
-fn wide(x: u8) -> usize
-    ensures { result ≡ x }
-{
-    x as usize
 }
 
 // The summary of a segment in use whose slots were looked at.
@@ -41,26 +35,18 @@ fn in_use(number: SegmentNumber, row: Row) -> Summary
 }
 
 // The summaries of the segments in use, oldest first, each looked at behind those before.
-fn gather(
-    image: &[u8],
-    segments: usize,
-    slots: usize,
-    first: usize,
-    used: usize,
-) -> [Summary; MOST_SEGMENTS]
-    requires { Sized segments slots (length image.now) × (first + used ≤ 4294967296) × (used ≤ most_segments) }
-    ensures { take used result ≡ summaries_of first (tallies (rows_on image.now segments slots used first) none_met) }
+fn gather(image: &[u8], geometry: Geometry, first: usize, used: usize) -> [Summary; MOST_SEGMENTS]
+    requires { Sized geometry.segments geometry.slots (length image.now) × (first + used ≤ 4294967296) × (used ≤ most_segments) }
+    ensures { take used result ≡ summaries_of first (tallies (rows_on image.now geometry.segments geometry.slots used first) none_met) }
 {
     let mut seen = [0u64; 1024];
     let none = in_use(SegmentNumber(0), rows::no_row());
     let mut ring = [none; MOST_SEGMENTS];
-    let mut i: usize = 0;
-    while i < used {
+    for i in 0..used {
         let number = first + i;
-        let at = (number % segments * (slots + 1) + 1) * 256;
-        let row = rows::scan_row(image, at, slots, &mut seen);
+        let at = (number % geometry.segments * (geometry.slots + 1) + 1) * 256;
+        let row = rows::scan_row(image, at, geometry.slots, &mut seen);
         ring[i] = in_use(SegmentNumber(number as u32), row);
-        i += 1;
     }
     ring
 }
@@ -69,9 +55,8 @@ fn gather(
 fn written(row: Row) -> usize
     ensures { (result ≡ written_in row) × (result ≤ most_written) }
 {
-    let ending = row.ending;
-    let counted = wide(row.live) + wide(row.dead) + wide(row.cut);
-    if ends_torn(ending) {
+    let counted = usize::from(row.live) + usize::from(row.dead) + usize::from(row.cut);
+    if ends_torn(row.ending) {
         counted + 1
     } else {
         counted
@@ -83,11 +68,9 @@ fn add_row(sum: Sum, row: Row) -> Sum
     ensures { (result ≡ add_row sum row) × (row.live ≤ most_slots) × (written_in row ≤ most_written) }
 {
     let block = row.block;
-    let before = sum.ending;
-    let then = row.ending;
-    let live = sum.live + wide(row.live);
+    let live = sum.live + usize::from(row.live);
     let written = written(row);
-    let ending = rows::behind(before, then);
+    let ending = rows::behind(sum.ending, row.ending);
     if sum.dead {
         return Sum {
             live,
@@ -102,7 +85,7 @@ fn add_row(sum: Sum, row: Row) -> Sum
         live,
         written,
         compactions: sum.compactions + 1,
-        dead: wide(row.dead) + wide(row.cut) > 0,
+        dead: usize::from(row.dead) + usize::from(row.cut) > 0,
         ending,
         block,
     }
@@ -120,97 +103,67 @@ fn sum_rows(ring: [Summary; MOST_SEGMENTS], used: usize) -> Sum
         ending: Ending::Full,
         block: BlockNumber(0),
     };
-    let mut i: usize = 0;
-    while i < used {
-        let s = ring[i];
-        let row = s.row;
-        sum = add_row(sum, row);
-        i += 1;
+    for i in 0..used {
+        sum = add_row(sum, ring[i].row);
     }
     sum
 }
 
+#[tactic(auto, unfolding(judge::specs::Endings::in_order))]
 fn in_order(ending: Ending) -> bool
     ensures { result ≡ in_order ending }
 {
-    match ending {
-        Ending::Full => true,
-        Ending::Room => true,
-        Ending::TornLast => false,
-        Ending::TwinLast => false,
-        Ending::Bad => false,
-    }
+    matches!(ending, Ending::Full | Ending::Room)
 }
 
+#[tactic(auto, unfolding(judge::specs::Endings::ends_torn))]
 fn ends_torn(ending: Ending) -> bool
     ensures { result ≡ ends_torn ending }
 {
-    match ending {
-        Ending::Full => false,
-        Ending::Room => false,
-        Ending::TornLast => true,
-        Ending::TwinLast => false,
-        Ending::Bad => false,
-    }
+    matches!(ending, Ending::TornLast)
 }
 
+#[tactic(auto, unfolding(judge::specs::Endings::ends_twin))]
 fn ends_twin(ending: Ending) -> bool
     ensures { result ≡ ends_twin ending }
 {
-    match ending {
-        Ending::Full => false,
-        Ending::Room => false,
-        Ending::TornLast => false,
-        Ending::TwinLast => true,
-        Ending::Bad => false,
-    }
+    matches!(ending, Ending::TwinLast)
 }
 
 // Whether conditions 5 to 8 hold.
+// Kept: three, of one line each: each has a definition of its own (`orderly`, `torn_within`, `twin_within`), which its callers name.
+#[tactic(auto, unfolding(judge::specs::Verdict::orderly))]
 pub fn orderly(sum: Sum, most: usize) -> bool
     ensures { result ≡ orderly most sum }
 {
-    let ending = sum.ending;
-    if in_order(ending) {
-        sum.live <= most
-    } else {
-        false
-    }
+    in_order(sum.ending) && sum.live <= most
 }
 
 // Whether they hold but for a torn slot, written last.
+#[tactic(auto, unfolding(judge::specs::Verdict::torn_within))]
 pub fn torn_within(sum: Sum, most: usize) -> bool
     ensures { result ≡ torn_within most sum }
 {
-    let ending = sum.ending;
-    if ends_torn(ending) {
-        sum.live <= most
-    } else {
-        false
-    }
+    ends_torn(sum.ending) && sum.live <= most
 }
 
 // Whether they hold but for a live slot, written last, whose block was met before.
+#[tactic(auto, unfolding(judge::specs::Verdict::twin_within))]
 pub fn twin_within(sum: Sum, most: usize) -> bool
     ensures { result ≡ twin_within most sum }
 {
-    let ending = sum.ending;
-    if ends_twin(ending) {
-        sum.live <= most
-    } else {
-        false
-    }
+    ends_twin(sum.ending) && sum.live <= most
 }
 
 // The segments in use examined, where their frame is fine.
-pub fn examine(image: &[u8], segments: usize, slots: usize, frame: Frame) -> Exam
-    requires { Sized segments slots (length image.now) × Ranged frame }
-    ensures { (result ≡ exam_of segments slots image.now frame) × Bounded result }
+pub fn examine(image: &[u8], geometry: Geometry, frame: Frame) -> Exam
+    requires { Sized geometry.segments geometry.slots (length image.now) × Ranged frame }
+    ensures { (result ≡ exam_of geometry.segments geometry.slots image.now frame) × Bounded result }
 {
     let first = frame.first;
     let used = frame.used;
     if frame.fine {
-        let sum = sum_rows(gather(image, segments, slots, first, used), used);
+        let sum = sum_rows(gather(image, geometry, first, used), used);
         return Exam { first, used, sum };
     }
     let sum = Sum {

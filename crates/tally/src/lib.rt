@@ -9,10 +9,11 @@ ghost use Rattle.flash.specs.Pages.{Sized};
 ghost use Rattle.tally.specs.Seen.{zeros_before, tally_seen, header_in};
 
 use header::BITS;
-use model::SegmentNumber;
+use model::{Geometry, SegmentNumber};
 
 // What a header tells of recoveries' erases: whether it has version 1, which counts none; how many there are, those
 // carried on from earlier headers and those since; and whether it has no bit left to count one more.
+// Kept: no Option for version 1: `tally_seen` gives it a count too, 0, by which a put reckons whatever the version is.
 #[derive(Clone, Copy)]
 pub struct Tally {
     pub former: bool,
@@ -39,10 +40,8 @@ fn cleared_bits(bytes: &[u8]) -> usize
         return 0;
     }
     let mut sum: usize = 0;
-    let mut i: usize = 0;
-    while i < bytes.len() {
-        sum += cleared_in(bytes[i]);
-        i += 1;
+    for &byte in bytes {
+        sum += cleared_in(byte);
     }
     sum
 }
@@ -51,14 +50,12 @@ fn cleared_bits(bytes: &[u8]) -> usize
 fn zeros_before(bytes: &[u8]) -> usize
     ensures { result ≡ zeros_before bytes.now }
 {
-    let mut i: usize = 0;
-    while i < bytes.len() {
+    for i in 0..bytes.len() {
         if bytes[i] != 0 {
             return i;
         }
-        i += 1;
     }
-    i
+    bytes.len()
 }
 
 // The highest set bit of a byte.
@@ -113,28 +110,22 @@ fn count_in(page: &mut [u8], budget: u64) -> u64
 // ---- in an image
 
 // What the header of the segment that a number belongs to tells of recoveries' erases.
-pub fn tally_in(image: &[u8], segments: usize, slots: usize, number: SegmentNumber) -> Tally
-    requires { Sized segments slots (length image.now) }
-    ensures { (result ≡ tally_seen (header_version (header_in segments slots number.0 image.now))) × (result.count < 4294969344) }
+pub fn tally_in(image: &[u8], geometry: Geometry, number: SegmentNumber) -> Tally
+    requires { Sized geometry.segments geometry.slots (length image.now) }
+    ensures { (result ≡ tally_seen (header_version (header_in geometry.segments geometry.slots number.0 image.now))) × (result.count < 4294969344) }
 {
-    let at = header::header_place(segments, slots, number);
+    let at = header::header_place(geometry, number);
     let end = at + 256;
     see_tally(&image[at..end])
 }
 
 // Counts an erase that a recovery is about to make, in the header of the segment that a number belongs to. A header of
 // version 1 counts none, and one without a bit left no more.
-pub fn count_erase(
-    image: &mut [u8],
-    segments: usize,
-    slots: usize,
-    number: SegmentNumber,
-    budget: u64,
-) -> u64
-    requires { Sized segments slots (length image.old) }
-    ensures { Programmed (on_page (header_at segments slots number.0) (count_erase (header_version (header_in segments slots number.0 image.old)))) budget result image.old image.new }
+pub fn count_erase(image: &mut [u8], geometry: Geometry, number: SegmentNumber, budget: u64) -> u64
+    requires { Sized geometry.segments geometry.slots (length image.old) }
+    ensures { Programmed (on_page (header_at geometry.segments geometry.slots number.0) (count_erase (header_version (header_in geometry.segments geometry.slots number.0 image.old)))) budget result image.old image.new }
 {
-    let at = header::header_place(segments, slots, number);
+    let at = header::header_place(geometry, number);
     let end = at + 256;
     count_in(&mut image[at..end], budget)
 }

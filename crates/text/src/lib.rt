@@ -9,6 +9,7 @@ ghost use Rattle.text.specs.Buffer.{printed, print_in, short_of, done_of, Wrote,
 use model::Answer;
 
 // What printing gives: its answer, and the text's length.
+// Kept: `Buffer.print_in` promises a length beside the answer, 0 where the buffer is too short, and C is given both.
 #[derive(Clone, Copy)]
 pub struct Printed {
     pub answer: Answer,
@@ -24,15 +25,12 @@ pub fn add(text: &mut [u8], at: usize, bytes: &[u8]) -> usize
     if end > text.len() {
         return end;
     }
-    let mut i = 0;
-    while i < bytes.len() {
-        text[at + i] = bytes[i];
-        i += 1;
-    }
+    text[at..end].copy_from_slice(bytes);
     end
 }
 
 // How many digits a number has.
+// Kept: `n.checked_ilog10().map_or(1, |k| k + 1)` tells 0 apart, which the digits counted do not, and is no plainer.
 pub fn digit_count(n: u32) -> usize
     ensures { (result ≡ length (decimal n)) × (result ≤ 10) }
 {
@@ -55,10 +53,8 @@ pub fn add_number(text: &mut [u8], at: usize, n: u32) -> usize
         return end;
     }
     let mut rest = n;
-    let mut i = end;
-    while i > at {
-        i -= 1;
-        text[i] = 48 + (rest % 10) as u8;
+    for i in (at..end).rev() {
+        text[i] = b'0' + (rest % 10) as u8;
         rest /= 10;
     }
     end

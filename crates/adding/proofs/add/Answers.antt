@@ -10,8 +10,8 @@ overflow_add-place c =
     record {
       fits = omega (
         arith,
-        slot_place_lem c.args.segments c.args.slots q.top.0 (c.args.slots - q.free) _ c.first_slot-first.ensures,
-        slot_inside c.args.segments c.args.slots q.top.0 (c.args.slots - q.free) _ c.requires.0.sized (omega (arith, c.next_slot-at.ensures.some, c.next_slot-at.ensures.came.free)),
+        slot_place_lem c.args.geometry.segments c.args.geometry.slots q.top.0 (c.args.geometry.slots - q.free) _ c.first_slot-first.ensures,
+        slot_inside c.args.geometry.segments c.args.geometry.slots q.top.0 (c.args.geometry.slots - q.free) _ c.requires.0.sized (omega (arith, c.next_slot-at.ensures.some, c.next_slot-at.ensures.came.free)),
       );
     }
 
@@ -26,19 +26,15 @@ write_page-left-requires c =
       omega (
         arith,
         opened_length _ _ _ _ _ _ c.next_slot-at.ensures,
-        slot_place_lem c.args.segments c.args.slots q.top.0 (c.args.slots - q.free) _ c.first_slot-first.ensures,
-        slot_inside c.args.segments c.args.slots q.top.0 (c.args.slots - q.free) _ c.requires.0.sized (omega (arith, c.next_slot-at.ensures.some, c.next_slot-at.ensures.came.free)),
+        slot_place_lem c.args.geometry.segments c.args.geometry.slots q.top.0 (c.args.geometry.slots - q.free) _ c.first_slot-first.ensures,
+        slot_inside c.args.geometry.segments c.args.geometry.slots q.top.0 (c.args.geometry.slots - q.free) _ c.requires.0.sized (omega (arith, c.next_slot-at.ensures.some, c.next_slot-at.ensures.came.free)),
       ),
       fit.0,
-      omega (arith, c.wide-length.ensures, fit.1),
+      omega (arith, c.from-length.ensures, fit.1),
     )
 
 pub returns : goal.returns
 returns c =
     let q = c.next_slot-at.result in
-    page_added c.args.segments c.args.slots c.args.from q _ _ c.next_slot-at.ensures c.args.page.now c.requires.1 c.wide-length.result _ c.wide-length.ensures
-    (slot_place_lem c.args.segments c.args.slots q.top.0 (c.args.slots - q.free) _ c.first_slot-first.ensures) c.write_page-left.ensures
-
-pub overflow_add-result-2 : goal.overflow_add-result-2
-overflow_add-result-2 c =
-    omega (arith, c.wide-length.ensures, (page_fits c.args.page.now c.requires.1).1, c.next_slot-at.ensures.came.counted, c.next_slot-at.ensures.few, c.requires.0.few)
+    page_added c.args.geometry.segments c.args.geometry.slots c.args.from q _ _ c.next_slot-at.ensures c.args.page.now c.requires.1 c.from-length.result _ c.from-length.ensures
+    (slot_place_lem c.args.geometry.segments c.args.geometry.slots q.top.0 (c.args.geometry.slots - q.free) _ c.first_slot-first.ensures) c.write_page-left.ensures

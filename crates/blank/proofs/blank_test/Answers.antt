@@ -10,4 +10,4 @@ overflow_add-before c = record { fits = omega (arith, before_within c.args.bytes
 pub returns : goal.returns
 returns c =
     let d = tested c.args.bytes.now _ c.blank_before-before.ensures in
-    (d.0, c.least.ensures ∙ d.1)
+    (d.0, c.min.ensures ∙ d.1)

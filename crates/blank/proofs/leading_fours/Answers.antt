@@ -1,7 +1,7 @@
 -- `blank::leading_fours` counts the groups before the first that differs, four to a turn. The invariant: those looked at are blank. Assumes nothing.
-use Prim.Native.Nat.{◌*◌}
-use mathlib.Core.Path.{◌≡◌}
-use mathlib.Core.Bool.{true}
+use Prim.Native.Nat.{◌*◌, ◌/◌}
+use lib.ListN.{length}
+use mathlib.Core.Path.{◌≡◌, refl}
 use native.Mathlib.Omega.{arith}
 use Rattle.blank.proofs.Blank.{no_part, parts_whole, four_turn, four_stops}
 use Rattle.blank.proofs.leading_fours.Goals as goal
@@ -19,5 +19,7 @@ loop-i-preserved c =
 
 pub returns : goal.returns
 returns c =
-    let e : 4 * c.loop-i.i * 8 ≡ c.loop-i.i * 32 = omega arith in
-    parts_whole 8 c.args.bytes.now (4 * c.loop-i.i) (rw e c.loop-i.invariant.1) _ (omega arith)
+    let n = length c.args.bytes.now / 32 in
+    let i : c.loop-i.i ≡ n = omega arith in
+    let e : 4 * n * 8 ≡ n * 32 = omega arith in
+    parts_whole 8 c.args.bytes.now (4 * n) (rw e (rw i at c.loop-i.invariant.1)) _ refl

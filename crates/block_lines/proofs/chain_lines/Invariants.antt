@@ -4,7 +4,7 @@ use Rattle.block_lines.proofs.Laws.{chain_length, Walk}
 use Rattle.block_lines.proofs.chain_lines.Given as goal
 
 abbrev pub invariant-loop-page : goal.invariant-loop-page
-invariant-loop-page l = Walk l.segments l.slots l.image l.nexts l.lengths l.block (of_block l.block (list_of l.segments l.slots l.image)) l.initial.text l.at l.text l.page l.end
+invariant-loop-page l = Walk l.fn.geometry.segments l.fn.geometry.slots l.image l.tables.nexts l.tables.lengths l.block (of_block l.block (list_of l.fn.geometry.segments l.fn.geometry.slots l.image)) l.initial.text l.at l.text l.page l.end
 
 abbrev pub decreases-loop-page : goal.decreases-loop-page
-decreases-loop-page l = chain_length most_pages l.nexts l.page
+decreases-loop-page l = chain_length most_pages l.tables.nexts l.page

@@ -7,9 +7,9 @@ use Rattle.compact.proofs.compact_segment.Goals as goal
 
 pub erase_segment-erased-requires : goal.erase_segment-erased-requires
 erase_segment-erased-requires c =
-    omega (arith, segment_inside c.args.segments c.args.slots c.index_of.result _ c.requires.0 c.index_of.ensures.1)
+    omega (arith, segment_inside c.args.geometry.segments c.args.geometry.slots c.index_of.result _ c.requires.0 c.index_of.ensures.1)
 
 pub returns : goal.returns
 returns c =
-    compaction_done c.args.segments c.args.slots c.args.total c.args.old.0 c.args.number.0 c.index_of.result c.args.budget c.requires.0 c.requires.1
+    compaction_done c.args.geometry.segments c.args.geometry.slots c.args.total c.args.old.0 c.args.number.0 c.index_of.result c.args.budget c.requires.0 c.requires.1
     c.index_of.ensures.0 c.begin_compaction-begun.ensures c.copy_live-copy.ensures c.finish_copy-pending.ensures c.erase_segment-erased.ensures c.settle-left.ensures

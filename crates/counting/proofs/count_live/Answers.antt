@@ -24,7 +24,7 @@ first_slot-from-requires c =
 pub meet_slots-met-requires : goal.meet_slots-met-requires
 meet_slots-met-requires c =
     let f = image_fits _ _ _ _ _ c.requires in (
-      omega (arith, c.first_slot-from.ensures, slots_within c.args.segments c.args.slots (c.args.first.0 + c.loop-turn.turn) _ f.0),
+      omega (arith, c.first_slot-from.ensures, slots_within c.args.geometry.segments c.args.geometry.slots (c.args.first.0 + c.loop-turn.turn) _ f.0),
       omega (arith, c.loop-turn.invariant.few, f.0.slots, f.2),
     )
 

@@ -15,7 +15,7 @@ loop-i-preserved c =
     let l = c.loop-i in
     let t = c.loop-i-test.true in
     let k : l.i < length c.args.left.now = omega (arith, c.requires.0, c.requires.1) in
-    (ap (λ (z : ℕ). max z (largest (take (c.args.segments - (l.i + 1)) (drop (l.i + 1) c.args.left.now)))) c.larger-most.ensures ∙ (largest_more c.args.segments l.i l.most c.args.left.now t k ∙ l.invariant.0), omega arith)
+    (ap (λ (z : ℕ). max z (largest (take (c.args.segments - (l.i + 1)) (drop (l.i + 1) c.args.left.now)))) c.max-most.ensures ∙ (largest_more c.args.segments l.i l.most c.args.left.now t k ∙ l.invariant.0), omega arith)
 
 pub returns : goal.returns
 returns c =

@@ -7,6 +7,3 @@ use Rattle.descent.proofs.largest.Given as goal
 
 abbrev pub invariant-loop-i : goal.invariant-loop-i
 invariant-loop-i l = (max l.most (largest (take (l.segments - l.i) (drop l.i l.left))) ≡ largest (take l.segments l.left)) × (l.i ≤ l.segments)
-
-abbrev pub decreases-loop-i : goal.decreases-loop-i
-decreases-loop-i l = l.segments - l.i

@@ -14,12 +14,12 @@ loop-i-init c = (ran_none _ _ _, omega arith, refl)
 
 pub erase_segment-left-requires : goal.erase_segment-left-requires
 erase_segment-left-requires c =
-    omega (arith, segment_inside c.args.segments c.args.slots c.loop-i.i _ c.requires c.loop-i-test.true)
+    omega (arith, segment_inside c.args.geometry.segments c.args.geometry.slots c.loop-i.i _ c.requires c.loop-i-test.true)
 
 pub loop-i-preserved : goal.loop-i-preserved
 loop-i-preserved c =
     let a = c.args in
-    erase_next_lem a.segments a.slots c.loop-i.i a.budget c.loop-i-test.true c.loop-i.invariant.2 c.loop-i.invariant.0 c.erase_segment-left.ensures
+    erase_next_lem a.geometry.segments a.geometry.slots c.loop-i.i a.budget c.loop-i-test.true c.loop-i.invariant.2 c.loop-i.invariant.0 c.erase_segment-left.ensures
 
 pub returns : goal.returns
 returns c = search (rules, erase_end)

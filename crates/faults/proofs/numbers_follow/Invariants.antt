@@ -8,6 +8,3 @@ abbrev pub invariant-loop-k : goal.invariant-loop-k
 invariant-loop-k l =
     let segs = segments_of l.segments l.slots l.image in
     (numbers_from l.segments segs (l.used - l.k) (l.first + l.k) ≡ numbers_from l.segments segs l.used l.first) × (l.k ≤ l.used)
-
-abbrev pub decreases-loop-k : goal.decreases-loop-k
-decreases-loop-k l = l.used - l.k

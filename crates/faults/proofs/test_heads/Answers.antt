@@ -13,8 +13,8 @@ loop-i-init c =
     let e = c.none_counted.ensures in
     (tests_start (segments_of a.segments a.slots a.image.now) _ e, omega arith, rw e (omega arith), rw e (omega arith))
 
-pub see_segment-s-requires : goal.see_segment-s-requires
-see_segment-s-requires c = (c.requires, c.loop-i-test.true)
+pub see_segment-requires : goal.see_segment-requires
+see_segment-requires c = (c.requires, c.loop-i-test.true)
 
 pub test_head-tests-requires : goal.test_head-tests-requires
 test_head-tests-requires c = let l = c.loop-i in (omega (arith, l.invariant.2, c.requires.segments), l.invariant.3)
@@ -23,7 +23,7 @@ pub loop-i-preserved : goal.loop-i-preserved
 loop-i-preserved c =
     let l = c.loop-i in
     let a = c.args in
-    let v = c.see_segment-s in
+    let v = c.see_segment in
     let k = c.test_head-tests in
     let z = segments_length a.segments a.slots a.image.now in (
       tests_turn (segments_of a.segments a.slots a.image.now) l.i l.tests k.result _ v.result (omega arith) k.ensures.0 v.ensures l.invariant.0,

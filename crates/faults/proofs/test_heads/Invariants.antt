@@ -1,5 +1,5 @@
 -- `faults::test_heads`. The invariant: what is left of the segments, behind what was tested, gives the whole. Assumes nothing.
-use Prim.Native.Nat.{◌-◌, ◌≤◌}
+use Prim.Native.Nat.{◌≤◌}
 use mathlib.Core.Path.{◌≡◌}
 use lib.ListN.{drop}
 use Rattle.model.specs.State.{segments_of}
@@ -11,6 +11,3 @@ abbrev pub invariant-loop-i : goal.invariant-loop-i
 invariant-loop-i l =
     let segs = segments_of l.segments l.slots l.image in
     (tested l.tests (drop l.i segs) ≡ head_tests segs) × (l.i ≤ l.segments) × (l.tests.counts.used ≤ l.i) × (l.tests.counts.next ≤ 4294967296)
-
-abbrev pub decreases-loop-i : goal.decreases-loop-i
-decreases-loop-i l = l.segments - l.i

@@ -8,6 +8,3 @@ use Rattle.faults.proofs.test_row.Given as goal
 abbrev pub invariant-loop-i : goal.invariant-loop-i
 invariant-loop-i l =
     (test_slots (kinds_at l.image (l.at + l.i * 256) (l.slots - l.i)) (look l.tests l.seen) ≡ test_slots (kinds_at l.image l.at l.slots) (look l.initial.tests l.initial.seen)) × (l.i ≤ l.slots) × (l.tests.live ≤ l.initial.tests.live + l.i)
-
-abbrev pub decreases-loop-i : goal.decreases-loop-i
-decreases-loop-i l = l.slots - l.i

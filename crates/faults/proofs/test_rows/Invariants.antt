@@ -9,6 +9,3 @@ use Rattle.faults.proofs.test_rows.Given as goal
 abbrev pub invariant-loop-k : goal.invariant-loop-k
 invariant-loop-k l =
     ((test_rows (rows_on l.image l.segments l.slots (l.used - l.k) (l.first + l.k)) (look l.tests l.seen)).tests ≡ rows_tested (rows_on l.image l.segments l.slots l.used l.first)) × (l.k ≤ l.used) × (l.tests.live ≤ most_slots * l.k)
-
-abbrev pub decreases-loop-k : goal.decreases-loop-k
-decreases-loop-k l = l.used - l.k

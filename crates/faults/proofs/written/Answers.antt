@@ -2,6 +2,10 @@
 use Rattle.faults.specs.Tests.{wrote}
 use Rattle.faults.proofs.written.Goals as goal
 
-pub returns : goal.returns
+pub returns-then-tests : goal.returns-then-tests
 unfolding wrote
-returns c = rw c.still-in_order.ensures
+returns-then-tests c = rw c.if-tests.true
+
+pub returns-else-tests : goal.returns-else-tests
+unfolding wrote
+returns-else-tests c = rw c.if-tests.false

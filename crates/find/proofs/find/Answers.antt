@@ -6,7 +6,7 @@ use Rattle.find.proofs.find.Goals as goal
 pub segments-init : goal.segments-init
 segments-init c =
     let a = c.args in
-    (searching_start a.segments a.slots a.block.0 a.image.now a.first.0 a.used, refl)
+    (searching_start a.geometry.segments a.geometry.slots a.block.0 a.image.now a.first.0 a.used, refl)
 
 pub loop-slot-init : goal.loop-slot-init
 loop-slot-init c =

@@ -14,13 +14,13 @@ few N B n h =
     omega (arith, mul-le-mul_right (B + 1) j, h.2)
 
 pub overflow_mul-at : goal.overflow_mul-at
-overflow_mul-at c = record { fits = omega (arith, few c.args.segments c.args.slots c.args.number.0 c.requires) }
+overflow_mul-at c = record { fits = omega (arith, few c.args.geometry.segments c.args.geometry.slots c.args.number.0 c.requires) }
 
 pub overflow_add-at-2 : goal.overflow_add-at-2
-overflow_add-at-2 c = record { fits = omega (arith, few c.args.segments c.args.slots c.args.number.0 c.requires) }
+overflow_add-at-2 c = record { fits = omega (arith, few c.args.geometry.segments c.args.geometry.slots c.args.number.0 c.requires) }
 
 pub overflow_mul-at-2 : goal.overflow_mul-at-2
-overflow_mul-at-2 c = record { fits = omega (arith, few c.args.segments c.args.slots c.args.number.0 c.requires) }
+overflow_mul-at-2 c = record { fits = omega (arith, few c.args.geometry.segments c.args.geometry.slots c.args.number.0 c.requires) }
 
 pub returns : goal.returns
 unfolding slot_at

@@ -13,12 +13,12 @@ unfolding programs run
 loop-i-init c = (λ B. refl, omega arith, omega arith, refl)
 
 pub overflow_sub-left : goal.overflow_sub-left
-overflow_sub-left c = omega (arith, c.loop-i.invariant.1, c.least-covered.ensures)
+overflow_sub-left c = omega (arith, c.loop-i.invariant.1, c.min-covered.ensures)
 
 pub loop-i-preserved : goal.loop-i-preserved
 loop-i-preserved c =
     let a = c.args in
-    let e = c.least-covered.ensures in (
+    let e = c.min-covered.ensures in (
       programs_turn a.at c.loop-i.i a.bytes.now a.image.now c.loop-i.image (omega (arith, e)) c.loop-i.invariant.0,
       omega (arith, c.loop-i.invariant.1),
       omega (arith, e),
@@ -28,6 +28,6 @@ loop-i-preserved c =
 pub returns : goal.returns
 returns c =
     let a = c.args in
-    let e = c.least-covered.ensures in
+    let e = c.min-covered.ensures in
     let paid : c.loop-i.left ≡ a.budget - c.loop-i.i = c.loop-i.invariant.1 in
     rw paid (programs_covered a.at a.budget c.loop-i.i a.bytes.now a.image.now c.loop-i.image (omega (arith, e)) c.loop-i.invariant.0)

@@ -8,6 +8,3 @@ use Rattle.flash.proofs.program_run.Given as goal
 abbrev pub invariant-loop-i : goal.invariant-loop-i
 invariant-loop-i l =
     ProgrammedTo l.at l.i l.bytes l.initial.image l.image × (l.left ≡ l.budget - l.i) × (l.i ≤ min l.budget (length l.bytes)) × (length l.image ≡ length l.initial.image)
-
-abbrev pub decreases-loop-i : goal.decreases-loop-i
-decreases-loop-i l = length l.bytes - l.i

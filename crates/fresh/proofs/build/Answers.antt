@@ -11,10 +11,10 @@ use Rattle.fresh.proofs.build.Goals as goal
 
 pub overflow_sub-at : goal.overflow_sub-at
 overflow_sub-at c =
-    format_paid c.args.segments c.args.slots c.args.target.now _ c.args.budget c.format-formatted.result c.requires.0 c.format-formatted.ensures
+    format_paid c.args.geometry.segments c.args.geometry.slots c.args.target.now _ c.args.budget c.format-formatted.result c.requires.0 c.format-formatted.ensures
 
 pub overflow_add-at : goal.overflow_add-at
-overflow_add-at c = omega (arith, (sized c.args.segments c.args.slots c.args.target.now c.requires.0).segments)
+overflow_add-at c = omega (arith, (sized c.args.geometry.segments c.args.geometry.slots c.args.target.now c.requires.0).segments)
 
 pub loop-block-init : goal.loop-block-init
 loop-block-init c = building_start _ _ _ _ _ _ _ refl (omega arith)
@@ -43,7 +43,7 @@ slice_bounds-add-end c =
 
 pub add-at-requires : goal.add-at-requires
 add-at-requires c =
-    let z = format_sized c.args.segments c.args.slots c.args.target.now _ c.args.budget c.format-formatted.result c.requires.0 c.format-formatted.ensures in (
+    let z = format_sized c.args.geometry.segments c.args.geometry.slots c.args.target.now _ c.args.budget c.format-formatted.result c.requires.0 c.format-formatted.ensures in (
       building_going _ _ _ _ _ _ _ _ _ _ c.loop-block.invariant z.0 z.1 (omega (arith, z.0.segments)) c.loop-block-test.true,
       page_lives c.args.source.now (get_or c.args.places.now c.loop-block.block 0) (c.requires.1.points c.loop-block.block c.loop-block.invariant.low c.loop-block-test.true c.if-place-eq0.false).1,
     )
@@ -62,4 +62,4 @@ shape_of-target c = omega (arith, ran_length c.loop-block.invariant.ran)
 
 pub returns : goal.returns
 returns c =
-    building_end c.args.segments c.args.slots c.args.target.now _ c.args.budget c.format-formatted.result c.requires.0 c.format-formatted.ensures least_places _ _ _ _ _ c.loop-block.invariant c.loop-block-test.false c.finished.ensures
+    building_end c.args.geometry.segments c.args.geometry.slots c.args.target.now _ c.args.budget c.format-formatted.result c.requires.0 c.format-formatted.ensures least_places _ _ _ _ _ c.loop-block.invariant c.loop-block-test.false c.finished.ensures

@@ -6,7 +6,7 @@ use Rattle.fresh.proofs.Laws.{Building}
 use Rattle.fresh.proofs.build.Given as goal
 
 abbrev pub invariant-loop-block : goal.invariant-loop-block
-invariant-loop-block l = Building least_places l.segments l.slots l.source l.places l.initial.at l.initial.target l.block l.at l.target
+invariant-loop-block l = Building least_places l.geometry.segments l.geometry.slots l.source l.places l.initial.at l.initial.target l.block l.at l.target
 
 abbrev pub decreases-loop-block : goal.decreases-loop-block
 decreases-loop-block l = least_places - l.block

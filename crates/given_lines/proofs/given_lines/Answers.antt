@@ -3,57 +3,38 @@ use mathlib.Core.Path.{refl}
 use native.Mathlib.Omega.{arith}
 use Rattle.flash.proofs.Pages.{sized}
 use Rattle.block_lines.proofs.Laws.{blocks_start}
-use Rattle.meeting.specs.Sheet.{sheet}
 use Rattle.given_lines.proofs.Laws.{lines_one, lines_passed, lines_room, lines_end}
 use Rattle.given_lines.proofs.given_lines.Goals as goal
 
 pub overflow_cast-pages : goal.overflow_cast-pages
-overflow_cast-pages c = omega (arith, (sized c.args.segments c.args.slots c.args.image.now c.requires.0).slots)
+overflow_cast-pages c = omega (arith, (sized c.args.geometry.segments c.args.geometry.slots c.args.image.now c.requires.0).slots)
 
 pub overflow_add-pages : goal.overflow_add-pages
-overflow_add-pages c = omega (arith, (sized c.args.segments c.args.slots c.args.image.now c.requires.0).slots)
+overflow_add-pages c = omega (arith, (sized c.args.geometry.segments c.args.geometry.slots c.args.image.now c.requires.0).slots)
 
 pub loop-block-init : goal.loop-block-init
 loop-block-init c = blocks_start _ _ _ _
-
-pub bounds-places-block : goal.bounds-places-block
-bounds-places-block c = omega (arith, c.loop-block-test.true, c.requires.1.long)
-
-pub pass_empty-block-requires : goal.pass_empty-block-requires
-pass_empty-block-requires c = (omega (arith, c.requires.1.long), omega (arith, c.loop-block-test.true))
-
-pub loop-block-smaller-then-place-eq0 : goal.loop-block-smaller-then-place-eq0
-loop-block-smaller-then-place-eq0 c = let p = c.pass_empty-block.ensures in omega (arith, p.up, p.most, c.loop-block-test.true)
 
 pub loop-block-preserved-then-place-eq0 : goal.loop-block-preserved-then-place-eq0
 loop-block-preserved-then-place-eq0 c =
     let l = c.loop-block in
     let a = c.args in
-    lines_passed a.segments a.slots a.image.now c.requires.0 (sheet a.places.now a.lengths.now a.differs.now) c.requires.1 _ _ l.invariant c.loop-block-test.true c.if-place-eq0.true c.pass_empty-block.ensures
-
-pub nonzero_div-page-in-loop-block : goal.nonzero_div-page-in-loop-block
-nonzero_div-page-in-loop-block c = omega arith
-
-pub nonzero_rem-page : goal.nonzero_rem-page
-nonzero_rem-page c = omega arith
+    lines_passed a.geometry.segments a.geometry.slots a.image.now c.requires.0 a.sheet.now c.requires.1 _ _ l.invariant c.loop-block-test.true c.if-place-eq0.true c.pass_empty-block.ensures
 
 pub given_line-end-requires : goal.given_line-end-requires
 given_line-end-requires c =
     let l = c.loop-block in
     let a = c.args in
-    omega (arith, lines_room a.segments a.slots a.image.now c.requires.0 (sheet a.places.now a.lengths.now a.differs.now) c.requires.1 _ _ l.invariant, c.requires.2)
-
-pub loop-block-smaller : goal.loop-block-smaller
-loop-block-smaller c = omega (arith, c.loop-block-test.true)
+    omega (arith, lines_room a.geometry.segments a.geometry.slots a.image.now c.requires.0 a.sheet.now c.requires.1 _ _ l.invariant, c.requires.2)
 
 pub loop-block-preserved : goal.loop-block-preserved
 loop-block-preserved c =
     let g = c.given_line-end in
     let l = c.loop-block in
     let a = c.args in
-    lines_one a.segments a.slots a.image.now c.requires.0 (sheet a.places.now a.lengths.now a.differs.now) c.requires.1 _ _ l.invariant c.loop-block-test.true c.if-place-eq0.false refl refl refl refl g.ensures.0 g.ensures.1
+    lines_one a.geometry.segments a.geometry.slots a.image.now c.requires.0 a.sheet.now c.requires.1 _ _ l.invariant c.loop-block-test.true c.if-place-eq0.false c.from.ensures refl refl refl g.ensures.0 g.ensures.1
 
 pub returns : goal.returns
 returns c =
     let a = c.args in
-    lines_end a.segments a.slots a.image.now c.requires.0 (sheet a.places.now a.lengths.now a.differs.now) c.requires.1 _ _ c.loop-block.invariant c.loop-block-test.false
+    lines_end a.geometry.segments a.geometry.slots a.image.now c.requires.0 a.sheet.now c.requires.1 _ _ c.loop-block.invariant c.loop-block-test.false

@@ -8,7 +8,7 @@ use Rattle.given_lines.proofs.given_lines.Given as goal
 
 abbrev pub invariant-loop-block : goal.invariant-loop-block
 invariant-loop-block l =
-    Blocks (given_line (candidates l.segments (segments_of l.segments l.slots l.image))) (given (candidates l.segments (segments_of l.segments l.slots l.image))) l.initial.text l.at l.text l.block l.end
+    Blocks (given_line (candidates l.fn.geometry.segments (segments_of l.fn.geometry.segments l.fn.geometry.slots l.image))) (given (candidates l.fn.geometry.segments (segments_of l.fn.geometry.segments l.fn.geometry.slots l.image))) l.initial.text l.at l.text l.block l.end
 
 abbrev pub decreases-loop-block : goal.decreases-loop-block
 decreases-loop-block l = most_pages - l.block

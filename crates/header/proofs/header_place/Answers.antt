@@ -8,12 +8,12 @@ use Rattle.header.proofs.header_place.Goals as goal
 pub overflow_mul-result : goal.overflow_mul-result
 overflow_mul-result c =
     let a = c.args in
-    record { fits = omega (arith, header_small a.number.0 a.segments a.slots (omega arith) (omega arith) (omega arith)) }
+    record { fits = omega (arith, header_small a.number.0 a.geometry.segments a.geometry.slots (omega arith) (omega arith) (omega arith)) }
 
 pub overflow_mul-result-2 : goal.overflow_mul-result-2
 overflow_mul-result-2 c =
     let a = c.args in
-    record { fits = omega (arith, header_small a.number.0 a.segments a.slots (omega arith) (omega arith) (omega arith)) }
+    record { fits = omega (arith, header_small a.number.0 a.geometry.segments a.geometry.slots (omega arith) (omega arith) (omega arith)) }
 
 pub returns : goal.returns
 unfolding header_at

@@ -6,4 +6,4 @@ use Rattle.header_steps.proofs.compaction_page.Goals as goal
 pub overflow_cast-index-2 : goal.overflow_cast-index-2
 overflow_cast-index-2 c =
     let a = c.args in
-    record { fits = omega (arith, index_small a.old.0 a.segments (omega arith) (omega arith)) }
+    record { fits = omega (arith, index_small a.old.0 a.geometry.segments (omega arith) (omega arith)) }

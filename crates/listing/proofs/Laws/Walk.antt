@@ -8,7 +8,6 @@ use native.Mathlib.Omega.{arith}
 use native.Mathlib.Decide.{ℕ_discrete}
 use lib.ListN.{length, get_or, take, set, length-set}
 use lib.Seq.{get_or-set_same, get_or-set_other, get_or-take, ext_get_or, length-take-le}
-use Rattle.model.specs.Lists.{count}
 use Rattle.model.specs.Chip.{Image, most_segments}
 use Rattle.model.specs.Slot.{Slot, kind_of}
 use Rattle.model.specs.State.{Segment, blank, invalid, in_use, is_in_use, number_after, segments_of, slots_in, top_index, used_count}
@@ -21,7 +20,8 @@ use Rattle.account_text.specs.Account.{LiveSlot, live_from, live_in, live_slots,
 use Rattle.index.specs.declared.Counts.{Counts}
 use Rattle.index.specs.declared.Shown.{Shown}
 use Rattle.index.specs.Shows.{no_counts, counts_of, shown_as, shown_of, uncounted, counted, after_shown}
-use Rattle.index.specs.Tables.{Tables, link_row, linked, list_of}
+use Rattle.index.specs.declared.Tables.{Tables}
+use Rattle.index.specs.Tables.{link_row, linked, list_of}
 use Rattle.index.proofs.Walks.{held_shown}
 use Rattle.descent.specs.Descent.{largest, Descent}
 use Rattle.descent.specs.Turns.{descent_start, turn_below, turn_used, turn_row, turn_gone, turn_live, turn, end_unused, end_live}

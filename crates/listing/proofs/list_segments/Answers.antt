@@ -4,10 +4,8 @@ use mathlib.Core.Path.{◌≡◌}
 use native.Mathlib.Omega.{arith}
 use native.Mathlib.Nat.{mod-lt}
 use lib.ListN.{set, length-set}
-use Rattle.model.specs.Lists.{count}
 use Rattle.model.specs.State.{blank, top_index}
 use Rattle.index.specs.Shows.{no_counts, shown_as}
-use Rattle.index.specs.Tables.{tables}
 use Rattle.descent.specs.Turns.{turn_index, turn_less, page_inside}
 use Rattle.listing.proofs.Laws.Walk.{whole, walk_start, again, walk_end}
 use Rattle.listing.proofs.list_segments.Goals as goal
@@ -21,24 +19,24 @@ largest-top-requires c = (c.requires.0.segments, c.numbers-left.ensures.1)
 pub loop-top-init : goal.loop-top-init
 loop-top-init c =
     let a = c.args in
-    (whole a.segments a.slots a.image.now, walk_start a.segments a.slots a.image.now c.requires.0.some c.requires.0.segments (tables a.firsts.now a.nexts.now a.lengths.now) a.table c.numbers-left.result c.largest-top.result (omega (arith, c.well_formed.1.1.1.0)) c.numbers-left.ensures.1 c.requires.1 c.numbers-left.ensures.0 c.largest-top.ensures)
+    (whole a.geometry.segments a.geometry.slots a.image.now, walk_start a.geometry.segments a.geometry.slots a.image.now c.requires.0.some c.requires.0.segments a.tables.now a.table c.numbers-left.result c.largest-top.result (omega (arith, c.well_formed.1.1.1.0)) c.numbers-left.ensures.1 c.requires.1 c.numbers-left.ensures.0 c.largest-top.ensures)
 
 pub nonzero_rem-index : goal.nonzero_rem-index
 nonzero_rem-index c = c.requires.0.some
 
-pub overflow_add-slots : goal.overflow_add-slots
-overflow_add-slots c = omega (arith, c.requires.0.slots)
+pub overflow_add-geometry : goal.overflow_add-geometry
+overflow_add-geometry c = omega (arith, c.requires.0.slots)
 
 pub overflow_mul-index : goal.overflow_mul-index
 overflow_mul-index c =
     let m = mod-lt (c.loop-top.top - 1) c.requires.0.some in
-    let q = page_inside c.args.segments c.args.slots ((c.loop-top.top - 1) % c.args.segments) m c.requires.0.segments c.requires.0.slots in
+    let q = page_inside c.args.geometry.segments c.args.geometry.slots ((c.loop-top.top - 1) % c.args.geometry.segments) m c.requires.0.segments c.requires.0.slots in
     omega (arith, q.0)
 
 pub list_row-counts-requires : goal.list_row-counts-requires
 list_row-counts-requires c =
     let m = mod-lt (c.loop-top.top - 1) c.requires.0.some in
-    let q = page_inside c.args.segments c.args.slots ((c.loop-top.top - 1) % c.args.segments) m c.requires.0.segments c.requires.0.slots in
+    let q = page_inside c.args.geometry.segments c.args.geometry.slots ((c.loop-top.top - 1) % c.args.geometry.segments) m c.requires.0.segments c.requires.0.slots in
     (omega (arith, q.2, c.requires.0.whole), q.1, c.requires.0.slots)
 
 pub offset_bounds-shown-index : goal.offset_bounds-shown-index
@@ -78,7 +76,7 @@ pub loop-top-smaller : goal.loop-top-smaller
 loop-top-smaller c =
     let a = c.args in
     let l = c.loop-top in
-    turn_less a.segments a.slots a.image.now c.requires.0.some l.invariant.0 l.left l.top l.invariant.1.descent c.loop-top-test.true
+    turn_less a.geometry.segments a.geometry.slots a.image.now c.requires.0.some l.invariant.0 l.left l.top l.invariant.1.descent c.loop-top-test.true
 
 pub loop-top-preserved : goal.loop-top-preserved
 unfolding shown_as no_counts
@@ -87,14 +85,14 @@ loop-top-preserved c =
     let l = c.loop-top in
     let more = c.loop-top-test.true in
     let w = l.invariant.1 in
-    let e : (l.top - 1) % a.segments ≡ top_index a.segments l.invariant.0 = turn_index a.segments a.slots a.image.now c.requires.0.some l.invariant.0 l.left l.top w.descent more in (
-      set l.invariant.0 (top_index a.segments l.invariant.0) blank,
-      again a.segments a.slots a.image.now c.requires.0.some c.requires.0.segments (tables a.firsts.now a.nexts.now a.lengths.now) l.invariant.0 l.shown l.left l.top (tables l.firsts l.nexts l.lengths) w more
-          ((l.top - 1) % a.segments) e c.list_row-counts.result c.count.result _ c.largest-top-in-loop-top.result c.list_row-counts.ensures.0 c.count.ensures c.list_row-counts.ensures.1 c.largest-top-in-loop-top.ensures,
+    let e : (l.top - 1) % a.geometry.segments ≡ top_index a.geometry.segments l.invariant.0 = turn_index a.geometry.segments a.geometry.slots a.image.now c.requires.0.some l.invariant.0 l.left l.top w.descent more in (
+      set l.invariant.0 (top_index a.geometry.segments l.invariant.0) blank,
+      again a.geometry.segments a.geometry.slots a.image.now c.requires.0.some c.requires.0.segments a.tables.now l.invariant.0 l.shown l.left l.top l.tables w more
+          ((l.top - 1) % a.geometry.segments) e c.list_row-counts.result c.count.result _ c.largest-top-in-loop-top.result c.list_row-counts.ensures.0 c.count.ensures c.list_row-counts.ensures.1 c.largest-top-in-loop-top.ensures,
     )
 
 pub returns : goal.returns
 returns c =
     let a = c.args in
     let l = c.loop-top in
-    walk_end a.segments a.slots a.image.now c.requires.0.some c.requires.0.segments (tables a.firsts.now a.nexts.now a.lengths.now) l.invariant.0 l.shown l.left l.top (tables l.firsts l.nexts l.lengths) l.invariant.1 (omega (arith, c.loop-top-test.false))
+    walk_end a.geometry.segments a.geometry.slots a.image.now c.requires.0.some c.requires.0.segments a.tables.now l.invariant.0 l.shown l.left l.top l.tables l.invariant.1 (omega (arith, c.loop-top-test.false))

@@ -1,5 +1,5 @@
 -- `listing::numbers`. The invariant: the first `i` are there. Assumes nothing.
-use Prim.Native.Nat.{◌-◌, ◌≤◌}
+use Prim.Native.Nat.{◌≤◌}
 use mathlib.Core.Path.{◌≡◌}
 use mathlib.Core.List.{map}
 use lib.ListN.{length, take}
@@ -9,6 +9,3 @@ use Rattle.listing.proofs.numbers.Given as goal
 
 abbrev pub invariant-loop-i : goal.invariant-loop-i
 invariant-loop-i l = (take l.i l.left ≡ map after_shown (take l.i l.table)) × (l.i ≤ l.segments) × (length l.left ≡ most_segments)
-
-abbrev pub decreases-loop-i : goal.decreases-loop-i
-decreases-loop-i l = l.segments - l.i

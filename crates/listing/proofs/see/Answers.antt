@@ -18,8 +18,8 @@ hide-requires c = let r = right_size_lem _ _ _ c.requires.0 in (r.0.some, r.0.se
 pub returns : goal.returns
 returns c =
     let a = c.args in
-    let l = segments_of a.segments a.slots a.image.now in
+    let l = segments_of a.geometry.segments a.geometry.slots a.image.now in
     let r = right_size_lem _ _ _ c.requires.0 in
-    let e : take a.segments c.hide.result ≡ take a.segments (hidden a.survey a.segments c.see_all.result) = ap (take a.segments) c.hide.ensures in
-    e ∙ (ap (λ (x : Surveyed). take a.segments (hidden x a.segments c.see_all.result)) c.requires.1
-    ∙ hidden_shown a.segments a.slots l c.see_all.result r.0.some (segments_length a.segments a.slots a.image.now) c.see_all.ensures)
+    let e : take a.geometry.segments c.hide.result ≡ take a.geometry.segments (hidden a.survey a.geometry.segments c.see_all.result) = ap (take a.geometry.segments) c.hide.ensures in
+    e ∙ (ap (λ (x : Surveyed). take a.geometry.segments (hidden x a.geometry.segments c.see_all.result)) c.requires.1
+    ∙ hidden_shown a.geometry.segments a.geometry.slots l c.see_all.result r.0.some (segments_length a.geometry.segments a.geometry.slots a.image.now) c.see_all.ensures)

@@ -14,17 +14,14 @@ use Rattle.listing.proofs.see_all.Goals as goal
 pub loop-i-init : goal.loop-i-init
 loop-i-init c = (refl, omega arith, refl)
 
-pub see_segment-s-requires : goal.see_segment-s-requires
-see_segment-s-requires c = (c.requires, c.loop-i-test.true)
+pub see_segment-requires : goal.see_segment-requires
+see_segment-requires c = (c.requires, c.loop-i-test.true)
 
 pub offset_bounds-table-i : goal.offset_bounds-table-i
 offset_bounds-table-i c = omega (arith, c.requires.segments)
 
 pub bounds-table-i : goal.bounds-table-i
 bounds-table-i c = omega (arith, c.requires.segments)
-
-pub overflow_add-i : goal.overflow_add-i
-overflow_add-i c = omega (arith, c.requires.segments)
 
 pub loop-i-smaller : goal.loop-i-smaller
 loop-i-smaller c = omega arith
@@ -33,15 +30,15 @@ pub loop-i-preserved : goal.loop-i-preserved
 loop-i-preserved c =
     let l = c.loop-i in
     let t = c.loop-i-test.true in
-    let m = segments_of c.args.segments c.args.slots c.args.image.now in
-    let z = segments_length c.args.segments c.args.slots c.args.image.now in
-    let e : c.begin.result ≡ uncounted (get_or m l.i blank) = c.begin.ensures ∙ (ap uncounted c.see_segment-s.ensures ∙ outline_uncounted (get_or m l.i blank)) in
+    let m = segments_of c.args.geometry.segments c.args.geometry.slots c.args.image.now in
+    let z = segments_length c.args.geometry.segments c.args.geometry.slots c.args.image.now in
+    let e : c.begin.result ≡ uncounted (get_or m l.i blank) = c.begin.ensures ∙ (ap uncounted c.see_segment.ensures ∙ outline_uncounted (get_or m l.i blank)) in
     (fill_more uncounted m blank l.table l.i c.begin.result (omega arith) (omega (arith, l.invariant.2, c.requires.segments)) e l.invariant.0, omega arith, simp length-set l.invariant.2)
 
 pub returns : goal.returns
 returns c =
     let l = c.loop-i in
-    let m = segments_of c.args.segments c.args.slots c.args.image.now in
-    let z = segments_length c.args.segments c.args.slots c.args.image.now in
-    let e : l.i ≡ c.args.segments = omega (arith, c.loop-i-test.false) in
-    (rw e at l.invariant.0) ∙ ap (map uncounted) (take_all c.args.segments m (omega arith))
+    let m = segments_of c.args.geometry.segments c.args.geometry.slots c.args.image.now in
+    let z = segments_length c.args.geometry.segments c.args.geometry.slots c.args.image.now in
+    let e : l.i ≡ c.args.geometry.segments = omega (arith, c.loop-i-test.false) in
+    (rw e at l.invariant.0) ∙ ap (map uncounted) (take_all c.args.geometry.segments m (omega arith))

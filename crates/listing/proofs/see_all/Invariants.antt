@@ -1,5 +1,5 @@
 -- `listing::see_all`. The invariant: the first `i` are there. Assumes nothing.
-use Prim.Native.Nat.{◌-◌, ◌≤◌}
+use Prim.Native.Nat.{◌≤◌}
 use mathlib.Core.Path.{◌≡◌}
 use mathlib.Core.List.{map}
 use lib.ListN.{length, take}
@@ -9,7 +9,4 @@ use Rattle.index.specs.Shows.{uncounted}
 use Rattle.listing.proofs.see_all.Given as goal
 
 abbrev pub invariant-loop-i : goal.invariant-loop-i
-invariant-loop-i l = (take l.i l.table ≡ map uncounted (take l.i (segments_of l.segments l.slots l.image))) × (l.i ≤ l.segments) × (length l.table ≡ most_segments)
-
-abbrev pub decreases-loop-i : goal.decreases-loop-i
-decreases-loop-i l = l.segments - l.i
+invariant-loop-i l = (take l.i l.table ≡ map uncounted (take l.i (segments_of l.geometry.segments l.geometry.slots l.image))) × (l.i ≤ l.geometry.segments) × (length l.table ≡ most_segments)

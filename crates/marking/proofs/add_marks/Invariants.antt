@@ -8,6 +8,3 @@ use Rattle.marking.proofs.add_marks.Given as goal
 abbrev pub invariant-loop-i : goal.invariant-loop-i
 invariant-loop-i l =
     Finishes (marks_from l.i (slots_at l.image (l.first + l.i * 256) (l.slots - l.i))) (marks_from 0 (slots_at l.image l.first l.slots)) l.initial.text l.at l.text l.end × (l.i ≤ l.slots) × (l.end ≤ l.at + l.i * 22)
-
-abbrev pub decreases-loop-i : goal.decreases-loop-i
-decreases-loop-i l = l.slots - l.i

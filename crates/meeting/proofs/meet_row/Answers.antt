@@ -1,52 +1,28 @@
 -- `meeting::meet_row`. The invariant: the slots behind those that are left were met. Assumes nothing.
-use Prim.Native.Nat.{◌+◌, ◌-◌, ◌*◌}
+use Prim.Native.Nat.{◌+◌, ◌-◌, ◌*◌, ◌≤◌}
 use mathlib.Core.Path.{◌≡◌, sym, ◌∙◌, subst}
 use native.Mathlib.Omega.{arith}
 use lib.ListN.{length, take, drop}
 use Rattle.model.specs.Slot.{slot_of, kind_of}
-use Rattle.meeting.specs.Sheet.{Sheet, sheet, Within, kind_within}
+use Rattle.meeting.specs.declared.Sheet.{Sheet}
+use Rattle.meeting.specs.Sheet.{Within, kind_within}
 use Rattle.meeting.proofs.Laws.{row_none, row_more}
 use Rattle.meeting.proofs.meet_row.Goals as goal
 
-pub loop-left-init : goal.loop-left-init
-loop-left-init c =
+pub loop-slot-init : goal.loop-slot-init
+loop-slot-init c =
     let a = c.args in
     let e : a.slots - a.slots ≡ 0 = omega arith in
-    (rw e (sym (row_none a.image.now ((a.header + a.slots + 1) * 256) (sheet a.places.now a.lengths.now a.differs.now) (a.header + a.slots + 1))), omega arith, c.requires.2)
+    (rw e (sym (row_none a.image.now ((a.header + a.slots + 1) * 256) a.sheet.now (a.header + a.slots + 1))), c.requires.2)
 
-pub overflow_add-header : goal.overflow_add-header
-overflow_add-header c = omega (arith, c.requires)
-
-pub meet_slot-requires : goal.meet_slot-requires
-meet_slot-requires c =
-    let l = c.loop-left in
-    (omega (arith, c.requires, l.invariant.1), omega (arith, c.requires, l.invariant.1), l.invariant.2)
-
-pub overflow_sub-left : goal.overflow_sub-left
-overflow_sub-left c = c.loop-left-test.true
-
-pub loop-left-smaller : goal.loop-left-smaller
-loop-left-smaller c = omega (arith, c.loop-left-test.true)
-
-pub loop-left-preserved : goal.loop-left-preserved
-loop-left-preserved c =
-    let t = c.loop-left-test.true in
-    let l = c.loop-left in
+pub loop-slot-preserved : goal.loop-slot-preserved
+loop-slot-preserved c =
+    let l = c.loop-slot in
     let a = c.args in
-    let start = sheet a.places.now a.lengths.now a.differs.now in
-    let here = sheet l.places l.lengths l.differs in
     let m = c.meet_slot.ensures in
-    let page = a.header + l.left in (
-      m ∙ row_more a.image.now a.header l.left a.slots here start t l.invariant.1 l.invariant.0,
-      omega (arith, l.invariant.1),
-      subst (λ (x : Sheet). Within x.places (length a.image.now)) (sym m) (kind_within a.image.now page (kind_of (slot_of (take 256 (drop (page * 256) a.image.now)))) here (length a.image.now) (omega (arith, c.requires, l.invariant.1)) l.invariant.2),
+    let page = a.header + 1 + (l.slot - 1) in
+    let e : page ≡ a.header + l.slot = omega (arith, c.loop-slot-test.true) in
+    let few : l.slot ≤ a.slots = omega (arith, l.auto.slot) in (
+      m ∙ row_more a.image.now a.header l.slot a.slots page l.sheet a.sheet.now e c.loop-slot-test.true few l.invariant.0,
+      subst (λ (x : Sheet). Within x.places (length a.image.now)) (sym m) (kind_within a.image.now page (kind_of (slot_of (take 256 (drop (page * 256) a.image.now)))) l.sheet (length a.image.now) (omega (arith, c.requires, few, e)) l.invariant.1),
     )
-
-pub returns : goal.returns
-returns c =
-    let a = c.args in
-    let l = c.loop-left in
-    let e : l.left ≡ 0 = omega (arith, c.loop-left-test.false) in
-    let f : a.header + 0 + 1 ≡ a.header + 1 = omega arith in
-    let g : a.slots - 0 ≡ a.slots = omega arith in
-    rw (e, f, g) at l.invariant.0

@@ -9,4 +9,4 @@ returns-then-blank c = rw c.if-blank.true (ran_none _ _ _)
 pub returns : goal.returns
 unfolding erasing counting
 returns c =
-    rw c.if-blank.false (◌then◌ (c.count_erase-counted.ensures c.args.slots) c.erase_after.ensures)
+    rw c.if-blank.false (◌then◌ (c.count_erase-counted.ensures c.args.geometry.slots) c.erase_after.ensures)

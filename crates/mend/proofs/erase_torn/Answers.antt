@@ -8,10 +8,10 @@ use Rattle.mend.proofs.erase_torn.Goals as goal
 
 pub finished-requires : goal.finished-requires
 finished-requires c =
-    omega (arith, ran_left (c.count_erase-counted.ensures c.args.slots), ran_left c.erase_after-left.ensures)
+    omega (arith, ran_left (c.count_erase-counted.ensures c.args.geometry.slots), ran_left c.erase_after-left.ensures)
 
 pub returns : goal.returns
 unfolding counting
 returns c =
-    let d = c.count_erase-counted.ensures c.args.slots in
+    let d = c.count_erase-counted.ensures c.args.geometry.slots in
     carried _ _ (◌then◌ d c.erase_after-left.ensures) d.rest refl c.finished.ensures

@@ -1,6 +1,6 @@
 -- A mounted put, by what refuses it, and by how it is performed.
 use Prim.Native.Nat.{ℕ}
-use mathlib.Core.Path.{◌≡◌, refl, sym, ◌∙◌}
+use mathlib.Core.Path.{◌≡◌, refl, sym, ap, ◌∙◌}
 use mathlib.Core.Logic.{◌≢◌, ⊎_elim}
 use mathlib.Core.Bool.{Bool, true, false, not, false≢true}
 use mathlib.Core.List.{List, [], ◌∷◌}
@@ -14,27 +14,21 @@ use Rattle.model.specs.Sequences.{among}
 use Rattle.model.specs.declared.Answer.{Answer}
 use Rattle.model.specs.declared.Answer.TheVariants.{Done, Size, Number, Length, Damaged, Unfinished, Absent as NotStored, Full, Worn, Cut, ShortTable, FormerVersion, Foreign, Shares, ShortBuffer}
 use Rattle.model.specs.declared.Performed.{Performed}
-use Rattle.model.specs.declared.SlotPlace.{SlotPlace}
 use Rattle.model.specs.Mounted.{Places, mounted_refusal, InStep, MountedPut}
 use Rattle.bridge.specs.Accepted.{refusal, read_passed}
 use Rattle.bridge.specs.Refusals.{put_number, put_length}
 use Rattle.request.specs.Request.{Refused}
-use Rattle.find.specs.declared.Found.{Found}
-use Rattle.find.specs.declared.Found.TheVariants as finds
+use Rattle.std.specs.Prelude.{Option, is_some, None, Some, Result, Ok, Err}
+use Rattle.find.specs.declared.FoundSlot.{FoundSlot}
 use Rattle.find.specs.Search.{rows_at, found_in}
-use Rattle.places.specs.declared.Entry.{Entry}
-use Rattle.places.specs.declared.Entry.TheVariants.{At, Absent, Stale}
-use Rattle.places.specs.Places.{entry_seen}
+use Rattle.places.specs.Places.{stale, entry_seen}
 use Rattle.bridge.specs.Mounting.{Kept, in_step_kept, kept_in_step}
-use Rattle.room.specs.declared.Plan.{Plan}
 use Rattle.put.specs.Writing.{Accepted}
-use Rattle.mounted_plan.specs.declared.Decision.{Decision}
-use Rattle.mounted_plan.specs.declared.Decision.TheVariants as decisions
+use Rattle.mounted_plan.specs.declared.PutPlan.{PutPlan}
 use Rattle.mounted_plan.specs.Decided.{Decides}
 use Rattle.mounted_plan.proofs.Callers.{refused_listed, refused_exact, accepted_agreed}
-use Rattle.mounted_write.specs.Continuing.{entry_for, found_for}
 use Rattle.mounted_put.specs.Performing.{Performs}
-use Rattle.mounted.specs.Puts.{none_found, Puts}
+use Rattle.mounted.specs.Puts.{Puts}
 use Rattle.mounted_read.proofs.Laws.Refusals.{passed, bound_not_cut, none_refuses}
 use Rattle.mounted_read.proofs.Laws.Reads.{kept_refusal, seen_there, seen_none, seen_stale}
 use Rattle.mounted.proofs.Laws.Writes.{refused_writes}
@@ -78,32 +72,32 @@ module _ (N B : ℕ) (s : Image) (t : Places) (b : ℕ) (c : List ℕ) (budget :
   put_unbound k l a e d = rw l at (none_refuses N B s t b k a e d)
 
   module _ (p : mounted_refusal N B s t b (length_ok (length c)) ≡ 0) where
-    pub put_stale : entry_seen B s (get_or t b 0) ≡ Stale → {q : Performed} → Refused Damaged q → MountedPut N B b c budget (performed q s) s t t
+    pub put_stale : entry_seen B s (get_or t b 0) ≡ stale → {q : Performed} → Refused Damaged q → MountedPut N B b c budget (performed q s) s t t
     unfolding code_of among
     put_stale e q = refused_writes N B s t b taken _ (put b c) budget Damaged q (λ z. omega arith) (λ z. omega arith) (λ n. absurd (n p)) (λ z. refl)
         (λ k. absurd (seen_stale N B s t b k (passed N B s t b taken p).number e))
 
     -- what the entry tells
-    puts_stored : (q : SlotPlace) (l : ℕ) → entry_seen B s (get_or t b 0) ≡ At q l → Puts N B (finds.At q l) b c s t
-    unfolding entry_for none_found
-    puts_stored q l e = record { passed = p; seen = e; told = λ step. let k = in_step_kept N B s t step in rw (read_passed N B s b (seen_there N B s t b k (passed N B s t b taken p).number q l e).code) }
+    puts_stored : (x : FoundSlot) → entry_seen B s (get_or t b 0) ≡ Ok (Some x) → Puts N B (Some x) b c s t
+    puts_stored x e = record { passed = p; seen = e; told = λ step. let k = in_step_kept N B s t step in sym (read_passed N B s b (seen_there N B s t b k (passed N B s t b taken p).number x e).code) }
 
-    puts_new : entry_seen B s (get_or t b 0) ≡ Absent → Puts N B finds.Nothing b c s t
-    unfolding entry_for none_found
-    puts_new e = record { passed = p; seen = e; told = λ step. rw (seen_none N B s t b (in_step_kept N B s t step) (passed N B s t b taken p).number e) }
+    puts_new : entry_seen B s (get_or t b 0) ≡ Ok None → Puts N B None b c s t
+    puts_new e = record { passed = p; seen = e; told = λ step. sym (seen_none N B s t b (in_step_kept N B s t step) (passed N B s t b taken p).number e) }
 
-    pub puts_told : (e : Entry) → e ≡ entry_seen B s (get_or t b 0) → (e ≡ Stale → ⊥) → (f : Found) → f ≡ found_for e → Puts N B f b c s t
-    unfolding found_for
-    puts_told (At q l) i k f j = rw j (puts_stored q l (sym i))
-    puts_told Absent i k f j = rw j (puts_new (sym i))
-    puts_told Stale i k f j = absurd (k refl)
+    pub puts_told : (f : Option FoundSlot) → entry_seen B s (get_or t b 0) ≡ Ok f → Puts N B f b c s t
+    puts_told (Some x) e = puts_stored x e
+    puts_told None e = puts_new e
 
-  module _ (f : Found) (g : Puts N B f b c s t) (absent : Bool) (i : absent ≡ none_found f) (d : Decision) (w : Decides N B absent s d) where
+  module _ (f : Option FoundSlot) (g : Puts N B f b c s t) (absent : Bool) (i : is_some f ≡ not absent) (d : Result PutPlan Answer) (w : Decides N B absent s d) where
     told : InStep N B s t → absent ≡ not (holds b (entries_in (view N B s)))
-    told step = i ∙ g.told step
+    told step = turned absent ∙ ap not (sym i ∙ g.told step)
+      where
+        turned : (x : Bool) → x ≡ not (not x)
+        turned true = refl
+        turned false = refl
 
     -- a plan refuses
-    pub put_refused : (a : Answer) → d ≡ decisions.Refused a → {q : Performed} → Refused a q → MountedPut N B b c budget (performed q s) s t t
+    pub put_refused : (a : Answer) → d ≡ Err a → {q : Performed} → Refused a q → MountedPut N B b c budget (performed q s) s t t
     put_refused a e q =
         let i = passed N B s t b taken g.passed in
         let l = planned_listed a (refused_listed N B absent s d w a e) in
@@ -111,9 +105,9 @@ module _ (N B : ℕ) (s : Image) (t : Places) (b : ℕ) (c : List ℕ) (budget :
         (λ k. (refused_exact N B absent s d w a e k.fine b (told (kept_in_step N B s t k)) c i.number i.right).0)
 
     -- performed by a plan
-    pub put_performed : (pl : Plan) (total : ℕ) → d ≡ decisions.Accepted pl total → Bytes s → {q : Performed} {u : Image} {x : Places} → Performs N B pl total b c budget q s u t x → MountedPut N B b c budget (performed q u) s t x
+    pub put_performed : (o : PutPlan) → d ≡ Ok o → Bytes s → {q : Performed} {u : Image} {x : Places} → Performs N B o.plan o.total b c budget q s u t x → MountedPut N B b c budget (performed q u) s t x
     unfolding performed among
-    put_performed pl total e bytes {q} {u} {x} r = record {
+    put_performed o e bytes {q} {u} {x} r = record {
       bound = λ n. absurd (n g.passed);
       listed = λ z. ⊎_elim (λ y. rw y) (λ y. rw y) r.codes;
       refused = λ n m. absurd (⊎_elim (λ y. n y) (λ y. m y) r.codes);
@@ -124,14 +118,14 @@ module _ (N B : ℕ) (s : Image) (t : Places) (b : ℕ) (c : List ℕ) (budget :
       kept = λ step z. kept_in_step N B u x ((r.exact (in_step_kept N B s t step) there (agreed step)).1 z);
     }
       where
-        there : Found
-        there = found_in N B pl.first.0 (rows_at N B s pl.used pl.first.0) b
+        there : Option FoundSlot
+        there = found_in N B o.plan.first.0 (rows_at N B s o.plan.used o.plan.first.0) b
 
-        agreed : InStep N B s t → Accepted N B pl total there b c s
+        agreed : InStep N B s t → Accepted N B o.plan o.total there b c s
         agreed step =
             let i = passed N B s t b taken g.passed in
             let k = in_step_kept N B s t step in
-            let a = accepted_agreed N B absent s d w pl total e k.fine b (told step) in record {
+            let a = accepted_agreed N B absent s d w o e k.fine b (told step) in record {
               put = record { plan = a.plan; bytes = bytes; number = i.number; taken = i.right };
               second = a.second;
               found = λ h. refl;

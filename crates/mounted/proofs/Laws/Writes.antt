@@ -19,7 +19,6 @@ use Rattle.model.specs.Sequences.{among}
 use Rattle.model.specs.declared.Answer.{Answer}
 use Rattle.model.specs.declared.Answer.TheVariants.{Damaged, Absent as NotStored}
 use Rattle.model.specs.declared.Performed.{Performed}
-use Rattle.model.specs.declared.SlotPlace.{SlotPlace}
 use Rattle.model.specs.Mounted.{Places, least_places, place_entry, mounted_refusal, Writes, MountedDelete}
 use Rattle.model.proofs.Laws.Chip.{run_size}
 use Rattle.bridge.specs.Accepted.{refusal, read_passed}
@@ -33,9 +32,9 @@ use Rattle.request.proofs.Answered.{refused_outcome}
 use Rattle.mend.specs.Marks.{PageAt, MarkedAt}
 use Rattle.looking.specs.Look.{There}
 use Rattle.store.proofs.Laws.Requests.{delete_done}
-use Rattle.places.specs.declared.Entry.{Entry}
-use Rattle.places.specs.declared.Entry.TheVariants.{At, Absent, Stale}
-use Rattle.places.specs.Places.{entry_seen, noted}
+use Rattle.std.specs.Prelude.{Option, None, Some, Ok, Err}
+use Rattle.find.specs.declared.FoundSlot.{FoundSlot}
+use Rattle.places.specs.Places.{Entry, absent, stale, entry_seen, noted}
 use Rattle.bridge.specs.Mounting.{Kept, in_step_kept, kept_in_step}
 use Rattle.places.proofs.Laws.Seen.{seen_believed}
 use Rattle.places.proofs.Laws.Noted.{noted_past, noted_unusable, noted_zero, noted_kept}
@@ -67,12 +66,12 @@ module _ (N B : ℕ) (s : Image) (t : Places) (b budget : ℕ) where
       (λ k. delete_code N B s b ∙ (refuses_absent N B s t b k a e h).code)
 
   module _ (p : mounted_refusal N B s t b true ≡ 0) where
-    delete_absent : entry_seen B s (get_or t b 0) ≡ Absent → {q : Performed} → Refused NotStored q → MountedDelete N B b budget (performed q s) s t t
+    delete_absent : entry_seen B s (get_or t b 0) ≡ absent → {q : Performed} → Refused NotStored q → MountedDelete N B b budget (performed q s) s t t
     unfolding code_of among
     delete_absent e q = refused_writes N B s t b true _ (delete b) budget NotStored q (λ z. omega arith) (λ z. omega arith) (λ n. absurd (n p)) (λ z. refl)
         (λ k. delete_code N B s b ∙ (seen_absent N B s t b k (passed N B s t b true p).number e).code)
 
-    delete_stale : entry_seen B s (get_or t b 0) ≡ Stale → {q : Performed} → Refused Damaged q → MountedDelete N B b budget (performed q s) s t t
+    delete_stale : entry_seen B s (get_or t b 0) ≡ stale → {q : Performed} → Refused Damaged q → MountedDelete N B b budget (performed q s) s t t
     unfolding code_of among
     delete_stale e q = refused_writes N B s t b true _ (delete b) budget Damaged q (λ z. omega arith) (λ z. omega arith) (λ n. absurd (n p)) (λ z. refl)
         (λ k. absurd (seen_stale N B s t b k (passed N B s t b true p).number e))
@@ -100,12 +99,12 @@ module _ (N B : ℕ) (s : Image) (t : Places) (b budget : ℕ) (p : mounted_refu
   number_inside : (0 < b) × (b < least_places)
   number_inside = number_range b a.number
 
-  module _ (q : SlotPlace) (l : ℕ) (e : entry_seen B s (get_or t b 0) ≡ At q l) where
-    entry_page : PageAt q.0 (length s)
-    entry_page = let i = seen_believed B s (get_or t b 0) q l e in
-        record { page = q.0 / 256; whole = omega (arith, div-add-mod q.0 256, i.place, i.even); inside = omega (arith, i.place, i.inside) }
+  module _ (x : FoundSlot) (e : entry_seen B s (get_or t b 0) ≡ Ok (Some x)) where
+    entry_page : PageAt x.place.0 (length s)
+    entry_page = let i = seen_believed B s (get_or t b 0) x e in
+        record { page = x.place.0 / 256; whole = omega (arith, div-add-mod x.place.0 256, i.place, i.even); inside = omega (arith, i.place, i.inside) }
 
-    module _ {d : Performed} {u : Image} (m : MarkedAt q.0 budget d s u) where
+    module _ {d : Performed} {u : Image} (m : MarkedAt x.place.0 budget d s u) where
       marked : Carried [] (on_page entry_page.page mark_dead) B budget d s u
       marked = m entry_page.page B entry_page.whole
 
@@ -117,8 +116,8 @@ module _ (N B : ℕ) (s : Image) (t : Places) (b budget : ℕ) (p : mounted_refu
           go false h = inl h
 
       module _ (k : Kept N B s t) where
-        there : There N B s b q.0 l
-        there = seen_there N B s t b k a.number q l e
+        there : There N B s b x.place.0 x.length
+        there = seen_there N B s t b k a.number x e
 
         outcome : performed d u ≡ outcome_of N B s budget (delete b)
         outcome = delete_done N B s budget b there m
@@ -151,20 +150,20 @@ module _ (N B : ℕ) (s : Image) (t : Places) (b budget : ℕ) (p : mounted_refu
 
 module _ {e : Entry} where
   module _ (budget : ℕ) (d : Performed) (s u : Image) where
-    pub marked_at : {q : SlotPlace} {l : ℕ} → e ≡ At q l → MarkedAt q.0 budget d s u → MarkedEntry e budget d s u
-    marked_at {q} {l} i m = subst (λ (y : Entry). MarkedEntry y budget d s u) (sym i) m
+    pub marked_at : {f : Option FoundSlot} {x : FoundSlot} → e ≡ Ok f → f ≡ Some x → MarkedAt x.place.0 budget d s u → MarkedEntry e budget d s u
+    marked_at {f} {x} o k m = let i : e ≡ Ok (Some x) = rw k at o in subst (λ (y : Entry). MarkedEntry y budget d s u) (sym i) m
 
-    pub marked_absent : e ≡ Absent → Refused NotStored d → u ≡ s → MarkedEntry e budget d s u
-    marked_absent i r k = subst (λ (y : Entry). MarkedEntry y budget d s u) (sym i) (r, k)
+    pub marked_absent : {f : Option FoundSlot} → e ≡ Ok f → f ≡ None → Refused NotStored d → u ≡ s → MarkedEntry e budget d s u
+    marked_absent {f} o n r k = let i : e ≡ absent = rw n at o in subst (λ (y : Entry). MarkedEntry y budget d s u) (sym i) (r, k)
 
-    pub marked_stale : e ≡ Stale → Refused Damaged d → u ≡ s → MarkedEntry e budget d s u
+    pub marked_stale : e ≡ stale → Refused Damaged d → u ≡ s → MarkedEntry e budget d s u
     marked_stale i r k = subst (λ (y : Entry). MarkedEntry y budget d s u) (sym i) (r, k)
 
 module _ (N B : ℕ) (s : Image) (t : Places) (b budget : ℕ) (p : mounted_refusal N B s t b true ≡ 0) where
   pub entry_inside : (e : Entry) → e ≡ entry_seen B s (get_or t b 0) → EntryInside e (length s)
-  entry_inside (At q l) i = entry_page N B s t b budget p q l (sym i)
-  entry_inside Absent i = tt
-  entry_inside Stale i = tt
+  entry_inside (Ok (Some x)) i = entry_page N B s t b budget p x (sym i)
+  entry_inside (Ok None) i = tt
+  entry_inside (Err x) i = tt
 
   -- one that is refused leaves image and table
   stays : (d : Performed) {u : Image} {w : Places} (a : Answer) → code_of d.answer ≡ code_of a → code_of a ≢ 0 → code_of a ≢ 9 → u ≡ s → w ≡ noted t b 0 (code_of d.answer) → MountedDelete N B b budget (performed d s) s t t
@@ -174,6 +173,6 @@ module _ (N B : ℕ) (s : Image) (t : Places) (b budget : ℕ) (p : mounted_refu
 
   pub delete_entry_writes : (e : Entry) → e ≡ entry_seen B s (get_or t b 0) → (d : Performed) (u : Image) {w : Places} → MarkedEntry e budget d s u → w ≡ noted t b 0 (code_of d.answer) → MountedDelete N B b budget (performed d u) s t w
   unfolding code_of
-  delete_entry_writes (At q l) i d u m j = delete_writes N B s t b budget p q l (sym i) m j
-  delete_entry_writes Absent i d u m j = stays d NotStored m.0.code (λ z. omega arith) (λ z. omega arith) m.1 j (delete_absent N B s t b budget p (sym i) m.0)
-  delete_entry_writes Stale i d u m j = stays d Damaged m.0.code (λ z. omega arith) (λ z. omega arith) m.1 j (delete_stale N B s t b budget p (sym i) m.0)
+  delete_entry_writes (Ok (Some x)) i d u m j = delete_writes N B s t b budget p x (sym i) m j
+  delete_entry_writes (Ok None) i d u m j = stays d NotStored m.0.code (λ z. omega arith) (λ z. omega arith) m.1 j (delete_absent N B s t b budget p (sym i) m.0)
+  delete_entry_writes (Err x) i d u m j = stays d Damaged m.0.code (λ z. omega arith) (λ z. omega arith) m.1 j (delete_stale N B s t b budget p (sym i) m.0)

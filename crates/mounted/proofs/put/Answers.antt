@@ -9,17 +9,17 @@ returns-in_default c =
     let a = c.args in
     put_bound a.segments a.slots a.image.now a.places.now a.block.0 a.contents.now a.budget _ c.length_ok-taken.ensures _ c.refusal-refused.ensures (λ z. refusing_code _ c.in_default.not-Done (c.refusal-refused.ensures ∙ z)) c.refused.ensures
 
-pub look_up-entry-requires : goal.look_up-entry-requires
-look_up-entry-requires c =
+pub look_up-requires : goal.look_up-requires
+look_up-requires c =
     let a = c.args in
     slots_few a.segments a.slots a.image.now a.places.now a.block.0 _ (put_unbound a.segments a.slots a.image.now a.places.now a.block.0 a.contents.now a.budget _ c.length_ok-taken.ensures _ c.refusal-refused.ensures c.in-Done.is)
 
 pub put_block-requires : goal.put_block-requires
 put_block-requires c =
     let a = c.args in
-    puts_told a.segments a.slots a.image.now a.places.now a.block.0 a.contents.now a.budget (put_unbound a.segments a.slots a.image.now a.places.now a.block.0 a.contents.now a.budget _ c.length_ok-taken.ensures _ c.refusal-refused.ensures c.in-Done.is) _ c.look_up-entry.ensures c.in_default-entry.not-Stale _ c.old_slot-old.ensures
+    puts_told a.segments a.slots a.image.now a.places.now a.block.0 a.contents.now a.budget (put_unbound a.segments a.slots a.image.now a.places.now a.block.0 a.contents.now a.budget _ c.length_ok-taken.ensures _ c.refusal-refused.ensures c.in-Done.is) _ (sym c.look_up.ensures ∙ c.in-Ok.is)
 
-pub returns : goal.returns
-returns c =
+pub returns-in_default-look_up : goal.returns-in_default-look_up
+returns-in_default-look_up c =
     let a = c.args in
-    put_stale a.segments a.slots a.image.now a.places.now a.block.0 a.contents.now a.budget (put_unbound a.segments a.slots a.image.now a.places.now a.block.0 a.contents.now a.budget _ c.length_ok-taken.ensures _ c.refusal-refused.ensures c.in-Done.is) (sym c.look_up-entry.ensures ∙ c.in-Stale.is) c.refused-2.ensures
+    put_stale a.segments a.slots a.image.now a.places.now a.block.0 a.contents.now a.budget (put_unbound a.segments a.slots a.image.now a.places.now a.block.0 a.contents.now a.budget _ c.length_ok-taken.ensures _ c.refusal-refused.ensures c.in-Done.is) (sym c.look_up.ensures ∙ c.in_default-look_up.is) c.refused-in_default-look_up.ensures

@@ -14,20 +14,20 @@ decide-decision-requires c =
     let a = c.args in
     (passed a.segments a.slots a.image.now a.places.now a.block.0 _ c.requires.passed).size
 
-pub returns-in-Refused : goal.returns-in-Refused
-returns-in-Refused c =
+pub returns-in-Err : goal.returns-in-Err
+returns-in-Err c =
     let a = c.args in
-    put_refused a.segments a.slots a.image.now a.places.now a.block.0 a.contents.now a.budget a.old c.requires _ c.is_absent.ensures _ c.decide-decision.ensures _ c.in-Refused.is c.refused.ensures
+    put_refused a.segments a.slots a.image.now a.places.now a.block.0 a.contents.now a.budget a.old c.requires _ c.is_none.ensures _ c.decide-decision.ensures _ c.in-Err.is c.refused.ensures
 
 pub perform-requires : goal.perform-requires
 unfolding most_contents
 perform-requires c =
     let a = c.args in
     let i = passed a.segments a.slots a.image.now a.places.now a.block.0 _ c.requires.passed in
-    (accepted_fits a.segments a.slots _ a.image.now _ c.decide-decision.ensures _ _ c.in-Accepted.is, i.long, taken_short (length a.contents.now) i.right, c.requires.seen)
+    (accepted_fits a.segments a.slots _ a.image.now _ c.decide-decision.ensures _ c.in-Ok.is, i.long, taken_short (length a.contents.now) i.right, c.requires.seen)
 
-pub returns-in-Accepted : goal.returns-in-Accepted
-returns-in-Accepted c =
+pub returns-in-Ok : goal.returns-in-Ok
+returns-in-Ok c =
     let a = c.args in
-    put_performed a.segments a.slots a.image.now a.places.now a.block.0 a.contents.now a.budget a.old c.requires _ c.is_absent.ensures _ c.decide-decision.ensures _ _ c.in-Accepted.is
+    put_performed a.segments a.slots a.image.now a.places.now a.block.0 a.contents.now a.budget a.old c.requires _ c.is_none.ensures _ c.decide-decision.ensures _ c.in-Ok.is
     (bytes_known a.image.now (λ i. search rules)) c.perform.ensures

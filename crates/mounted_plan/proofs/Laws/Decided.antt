@@ -16,6 +16,7 @@ use Rattle.model.specs.Answers.{code_of, is_full}
 use Rattle.model.specs.Sequences.{among}
 use Rattle.model.proofs.Laws.Chip.{size_facts}
 use Rattle.model.specs.declared.SegmentNumber.{SegmentNumber}
+use Rattle.model.specs.declared.Answer.{Answer}
 use Rattle.model.specs.declared.Answer.TheVariants.{Damaged, Full as FullAnswer, Worn, FormerVersion}
 use Rattle.bridge.specs.Predicted.{CleanView}
 use Rattle.bridge.specs.Held.{clean_view}
@@ -25,15 +26,14 @@ use Rattle.tally.specs.declared.Tally.{Tally}
 use Rattle.tally.specs.Seen.{header_in, tally_seen}
 use Rattle.ring.specs.Seen.{Bounded, SeenRing}
 use Rattle.ring.specs.declared.Ring.{Ring}
-use Rattle.ring.specs.declared.Ring.TheVariants.{InUse, Broken}
+use Rattle.std.specs.Prelude.{Option, None, Some, Result, Ok, Err}
 use Rattle.plan.specs.Statuses.{status_rows, first_marked, not_live, FreeFrom}
 use Rattle.plan.proofs.Callers.{clean_first_free, clean_compactions, clean_crowded}
 use Rattle.room.specs.declared.Plan.{Plan}
 use Rattle.room.specs.Room.{Plannable, Full, Planned}
 use Rattle.put_answers.specs.Answering.{worn_by}
 use Rattle.put_answers.proofs.Laws.{worn_room, worn_same, top_seen, former_same}
-use Rattle.mounted_plan.specs.declared.Decision.{Decision}
-use Rattle.mounted_plan.specs.declared.Decision.TheVariants.{Refused, Accepted}
+use Rattle.mounted_plan.specs.declared.PutPlan.{PutPlan}
 use Rattle.mounted_plan.specs.Decided.{full_seen, plan_seen, top_tally, header_decision, Decides}
 use Rattle.mounted_plan.proofs.Laws.Space.{few_in_use, two_empty}
 use Rattle.mounted_plan.proofs.Laws.Seen.{seen_fits}
@@ -48,23 +48,23 @@ pub record Ringed (N B : ℕ) (f : SegmentNumber) (u : ℕ) (s : Image) : Type 0
   pub first : state N B s ≡ clean → f.0 ≡ (view N B s).first
   pub used : state N B s ≡ clean → u ≡ length (view N B s).slots
 
-first_in : Ring → ℕ
-first_in (InUse f u) = f.0
-first_in Broken = 0
+first_in : Option Ring → ℕ
+first_in (Some x) = x.first.0
+first_in None = 0
 
-used_in : Ring → ℕ
-used_in (InUse f u) = u
-used_in Broken = 0
+used_in : Option Ring → ℕ
+used_in (Some x) = x.used
+used_in None = 0
 
-is_whole : Ring → Bool
-is_whole (InUse f u) = true
-is_whole Broken = false
+is_whole : Option Ring → Bool
+is_whole (Some x) = true
+is_whole None = false
 
-module _ (N B : ℕ) (s : Image) (z : right_size N B s ≡ true) (r : Ring) (w : SeenRing N B s r) where
-  pub ringed : (f : SegmentNumber) (u : ℕ) → r ≡ InUse f u → Ringed N B f u s
+module _ (N B : ℕ) (s : Image) (z : right_size N B s ≡ true) (r : Option Ring) (w : SeenRing N B s r) where
+  pub ringed : (x : Ring) → r ≡ Some x → Ringed N B x.first x.used s
   unfolding first_in used_in
-  ringed f u e =
-      let b : Bounded N (InUse f u) = subst (Bounded N) e w.bounded in record {
+  ringed x e =
+      let b : Bounded N (Some x) = subst (Bounded N) e w.bounded in record {
         some = b.0;
         spare = b.1;
         number = b.2;
@@ -73,7 +73,7 @@ module _ (N B : ℕ) (s : Image) (z : right_size N B s ≡ true) (r : Ring) (w :
       }
 
   -- no ring: not clean
-  pub decided_damaged : (absent : Bool) → r ≡ Broken → Decides N B absent s (Refused Damaged)
+  pub decided_damaged : (absent : Bool) → r ≡ None → Decides N B absent s (Err Damaged)
   unfolding among code_of is_whole
   decided_damaged absent e = record { any = refl; exact = λ c. absurd (true≢false (ap is_whole (sym (w.exact z c) ∙ e))) }
 
@@ -105,7 +105,7 @@ module _ (N B : ℕ) (s : Image) (z : right_size N B s ≡ true) (f : SegmentNum
       let t = tally_seen (header_version (header_in N B n s)) in
       former_same N B p s h t (top_seen N B p s h n t e refl)
 
-  pub decided_former : (absent t : Bool) → t ≡ is_former (header_version (header_in N B n s)) → t ≡ true → Decides N B absent s (Refused FormerVersion)
+  pub decided_former : (absent t : Bool) → t ≡ is_former (header_version (header_in N B n s)) → t ≡ true → Decides N B absent s (Err FormerVersion)
   unfolding among code_of
   decided_former absent t o h = record { any = refl; exact = λ c b a d m l. (put_former N B s z b d m l c (sym (version_same c) ∙ (sym o ∙ h)), refl) }
 
@@ -141,14 +141,14 @@ module _ (N B : ℕ) (s : Image) (z : right_size N B s ≡ true) (f : SegmentNum
       unfolding full_seen is_full
       full_same c b a = x ∙ ap₂ ◌&&◌ a (live_same c)
 
-      pub decided_full : full ≡ true → Decides N B absent s (Refused FullAnswer)
+      pub decided_full : full ≡ true → Decides N B absent s (Err FullAnswer)
       unfolding among code_of
       decided_full h = record { any = refl; exact = λ c b a d m g. (put_full N B s z b d m g (second c) c (sym (full_same c b a) ∙ h), refl) }
 
       module _ (h : full ≡ false) where
         -- ---- an empty slot in the top
 
-        pub decided_there : slot < B → Decides N B absent s (Accepted (plan_of slot 0) 0)
+        pub decided_there : slot < B → Decides N B absent s (Ok (record { plan = plan_of slot 0; total = 0 }))
         decided_there i = record {
           any = plan_fits N B s z f u k slot;
           exact = λ c b a.
@@ -190,11 +190,11 @@ module _ (N B : ℕ) (s : Image) (z : right_size N B s ≡ true) (f : SegmentNum
         worn_seen : state N B s ≡ clean → worn_by N B q (top_tally N B p s) ≡ is_worn N v
         worn_seen c = worn_same N B q s (q_planned c) (top_tally N B p s) (λ y. tally_same c)
 
-        pub decided_header : (d : Decision) → d ≡ header_decision N B p s → Decides N B absent s d
+        pub decided_header : (d : Result PutPlan Answer) → d ≡ header_decision N B p s → Decides N B absent s d
         unfolding header_decision among code_of tally_seen
         decided_header d g = subst (Decides N B absent s) (sym g) (go (worn_by N B q (top_tally N B p s)) refl)
           where
-            go : (t : Bool) → worn_by N B q (top_tally N B p s) ≡ t → Decides N B absent s (cond t (Refused Worn) (Accepted q (top_tally N B p s).count))
+            go : (t : Bool) → worn_by N B q (top_tally N B p s) ≡ t → Decides N B absent s (cond t (Err Worn) (Ok (record { plan = q; total = (top_tally N B p s).count })))
             go true y = record { any = refl; exact = λ c b a d m i. (put_worn N B s z b d m i (second c) c (sym (full_same c b a) ∙ h) (sym (worn_seen c) ∙ y), refl) }
             go false y = record {
               any = seen_fits N B p s (plan_fits N B s z f u k slot);

@@ -19,7 +19,7 @@ use Rattle.plan.proofs.Callers.{compactions_within}
 use Rattle.room.specs.declared.Plan.{Plan}
 use Rattle.room.specs.Room.{Plannable}
 use Rattle.put_answers.specs.Answering.{worn_by}
-use Rattle.mounted_plan.specs.declared.Decision.TheVariants.{Refused, Accepted}
+use Rattle.std.specs.Prelude.{Ok, Err}
 use Rattle.mounted_plan.specs.Decided.{full_seen, plan_seen, top_tally, header_decision}
 
 -- ---- the version in a header page that was lent
@@ -79,10 +79,10 @@ module _ (N B : ℕ) (p : Plan) (s : Image) (q : Plan) (t : Tally) (n : ℕ) (w 
   worn_seen : worn_by N B (plan_seen N B p s) (top_tally N B p s) ≡ w
   worn_seen = ap₂ (worn_by N B) (sym a) (sym tally_seen_lem) ∙ sym d
 
-  pub header_worn : w ≡ true → Refused Worn ≡ header_decision N B p s
+  pub header_worn : w ≡ true → Err Worn ≡ header_decision N B p s
   unfolding header_decision
   header_worn h = let g = worn_seen ∙ h in rw g
 
-  pub header_fresh : w ≡ false → Accepted q t.count ≡ header_decision N B p s
+  pub header_fresh : w ≡ false → Ok (record { plan = q; total = t.count }) ≡ header_decision N B p s
   unfolding header_decision
-  header_fresh h = let g = worn_seen ∙ h in rw g (ap₂ Accepted a (ap (λ (y : Tally). y.count) tally_seen_lem))
+  header_fresh h = let g = worn_seen ∙ h in rw g (ap₂ (λ (x : Plan) (y : ℕ). Ok (record { plan = x; total = y })) a (ap (λ (y : Tally). y.count) tally_seen_lem))

@@ -2,10 +2,10 @@
 use Rattle.mounted_plan.proofs.Laws.Seen.{plan_few, plan_counted}
 use Rattle.mounted_plan.proofs.count_compactions.Goals as goal
 
-pub returns-then-used-segments : goal.returns-then-used-segments
-returns-then-used-segments c = let a = c.args in plan_few a.segments a.slots a.plan a.image.now c.if-used-segments.true
+pub returns-then-used-geometry : goal.returns-then-used-geometry
+returns-then-used-geometry c = let a = c.args in plan_few a.geometry.segments a.geometry.slots a.plan a.image.now c.if-used-geometry.true
 
 pub returns : goal.returns
 returns c =
     let a = c.args in
-    plan_counted a.segments a.slots a.plan a.image.now _ c.if-used-segments.false c.compactions-compactions.ensures
+    plan_counted a.geometry.segments a.geometry.slots a.plan a.image.now _ c.if-used-geometry.false c.compactions-compactions.ensures

@@ -13,15 +13,15 @@ is_worn-requires c =
     let a = c.args in
     let s = a.image.now in
     let k = c.count_compactions-counted in
-    let w : Plannable a.segments a.slots k.result (length s) = subst (λ (y : Plan). Plannable a.segments a.slots y (length s)) (sym k.ensures) (seen_fits a.segments a.slots a.plan s c.requires.1) in
-    (ranged a.segments a.slots k.result s c.requires.0 w, omega (arith, w.number), c.tally_in-tally.ensures.1)
+    let w : Plannable a.geometry.segments a.geometry.slots k.result (length s) = subst (λ (y : Plan). Plannable a.geometry.segments a.geometry.slots y (length s)) (sym k.ensures) (seen_fits a.geometry.segments a.geometry.slots a.plan s c.requires.1) in
+    (ranged a.geometry.segments a.geometry.slots k.result s c.requires.0 w, omega (arith, w.number), c.tally_in-tally.ensures.1)
 
 pub returns-then-is_worn : goal.returns-then-is_worn
 returns-then-is_worn c =
     let a = c.args in
-    header_worn a.segments a.slots a.plan a.image.now _ _ _ _ c.count_compactions-counted.ensures c.top_number-top.ensures c.tally_in-tally.ensures.0 c.is_worn.ensures c.if-is_worn.true
+    header_worn a.geometry.segments a.geometry.slots a.plan a.image.now _ _ _ _ c.count_compactions-counted.ensures c.top_number-top.ensures c.tally_in-tally.ensures.0 c.is_worn.ensures c.if-is_worn.true
 
 pub returns : goal.returns
 returns c =
     let a = c.args in
-    header_fresh a.segments a.slots a.plan a.image.now _ _ _ _ c.count_compactions-counted.ensures c.top_number-top.ensures c.tally_in-tally.ensures.0 c.is_worn.ensures c.if-is_worn.false
+    header_fresh a.geometry.segments a.geometry.slots a.plan a.image.now _ _ _ _ c.count_compactions-counted.ensures c.top_number-top.ensures c.tally_in-tally.ensures.0 c.is_worn.ensures c.if-is_worn.false

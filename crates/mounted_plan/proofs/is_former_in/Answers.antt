@@ -6,13 +6,13 @@ use Rattle.mounted_plan.proofs.is_former_in.Goals as goal
 
 pub overflow_add-end : goal.overflow_add-end
 overflow_add-end c =
-    record { fits = omega (arith, c.header_place-at.ensures, header_inside c.args.segments c.args.slots c.args.number.0 _ c.requires) }
+    record { fits = omega (arith, c.header_place-at.ensures, header_inside c.args.geometry.segments c.args.geometry.slots c.args.number.0 _ c.requires) }
 
 pub slice_bounds-is_former-end : goal.slice_bounds-is_former-end
 slice_bounds-is_former-end c =
-    omega (arith, c.header_place-at.ensures, header_inside c.args.segments c.args.slots c.args.number.0 _ c.requires)
+    omega (arith, c.header_place-at.ensures, header_inside c.args.geometry.segments c.args.geometry.slots c.args.number.0 _ c.requires)
 
 pub returns : goal.returns
 returns c =
     let a = c.args in
-    former_in_lem a.segments a.slots a.number.0 _ a.image.now _ c.header_place-at.ensures c.is_former.ensures
+    former_in_lem a.geometry.segments a.geometry.slots a.number.0 _ a.image.now _ c.header_place-at.ensures c.is_former.ensures

@@ -6,19 +6,19 @@ use native.Mathlib.Omega.{arith}
 use Rattle.mounted_plan.proofs.is_full.Goals as goal
 
 pub returns-then-not-absent : goal.returns-then-not-absent
-returns-then-not-absent c = let a = c.args in full_stored a.segments a.slots a.absent a.plan a.image.now (ap not c.if-not-absent.true)
+returns-then-not-absent c = let a = c.args in full_stored a.geometry.segments a.geometry.slots a.absent a.plan a.image.now (ap not c.if-not-absent.true)
 
-pub returns-then-plan-segments : goal.returns-then-plan-segments
-returns-then-plan-segments c =
+pub returns-then-plan-geometry : goal.returns-then-plan-geometry
+returns-then-plan-geometry c =
     let a = c.args in
-    full_few a.segments a.slots a.absent a.plan a.image.now (ap not c.if-not-absent.false) c.if-plan-segments.true
+    full_few a.geometry.segments a.geometry.slots a.absent a.plan a.image.now (ap not c.if-not-absent.false) c.if-plan-geometry.true
 
-pub returns-then-plan-slots : goal.returns-then-plan-slots
-returns-then-plan-slots c =
+pub returns-then-plan-geometry-2 : goal.returns-then-plan-geometry-2
+returns-then-plan-geometry-2 c =
     let a = c.args in
-    full_two a.segments a.slots a.absent a.plan a.image.now (ap not c.if-not-absent.false) c.if-plan-segments.false (omega (arith, c.if-plan-slots.true))
+    full_two a.geometry.segments a.geometry.slots a.absent a.plan a.image.now (ap not c.if-not-absent.false) c.if-plan-geometry.false (omega (arith, c.if-plan-geometry-2.true))
 
 pub returns : goal.returns
 returns c =
     let a = c.args in
-    full_walked a.segments a.slots a.absent a.plan a.image.now (ap not c.if-not-absent.false) _ c.if-plan-segments.false c.if-plan-slots.false c.is_crowded.ensures
+    full_walked a.geometry.segments a.geometry.slots a.absent a.plan a.image.now (ap not c.if-not-absent.false) _ c.if-plan-geometry.false c.if-plan-geometry-2.false c.is_crowded.ensures

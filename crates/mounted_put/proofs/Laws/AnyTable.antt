@@ -14,7 +14,9 @@ use Rattle.model.specs.Answers.{code_of}
 use Rattle.model.specs.Mounted.{Places, least_places, unusable}
 use Rattle.model.specs.declared.Performed.{Performed}
 use Rattle.model.proofs.Laws.Bytes.{run_bytes}
-use Rattle.find.specs.declared.Found.{Found}
+use Rattle.std.specs.Prelude.{Option}
+use Rattle.std.specs.Prelude.{Option, Ok}
+use Rattle.find.specs.declared.FoundSlot.{FoundSlot}
 use Rattle.request.specs.Request.{Finished}
 use Rattle.places.specs.Places.{entry_seen, entered_from, noted}
 use Rattle.places.proofs.Laws.Entered.{entered_from_length, entered_from_past}
@@ -25,7 +27,7 @@ use Rattle.room.specs.Room.{Plannable, Worked}
 use Rattle.room.proofs.Laws.{worked_there}
 use Rattle.put.specs.Writing.{Placed, Wrote}
 use Rattle.put.proofs.Laws.Put.{accepted_writable, put_spent}
-use Rattle.mounted_write.specs.Continuing.{RoomMade, entry_for, Written, Stopped, Continued}
+use Rattle.mounted_write.specs.Continuing.{RoomMade, Written, Stopped, Continued}
 use Rattle.mounted_write.proofs.Laws.Parts.{found_placed}
 use Rattle.mounted_put.specs.Performing.{Performs}
 use Rattle.mounted_put.proofs.Laws.InStep.{not_stopped, written_outcome, written_kept}
@@ -77,7 +79,7 @@ module _ (N B : ℕ) (p : Plan) (total b : ℕ) (c : List ℕ) (budget : ℕ) (q
     mended_long : least_places ≤ length mended
     mended_long = omega (arith, long, entered_from_length N B x (r.first.0 + r.used - (p.first.0 + p.used)) (p.first.0 + p.used) t)
 
-    written_performs : (o : Found) → Written N B r o b c budget q x u mended w → Performs N B p total b c budget q s u t w
+    written_performs : (o : Option FoundSlot) → Written N B r o b c budget q x u mended w → Performs N B p total b c budget q s u t w
     written_performs o z = record {
       codes = finished_codes z.wrote.finished;
       cut = λ h. ap (λ (y : Places). get_or y 0 0) z.table ∙ noted_unusable mended b _ _ mended_long h;
@@ -104,7 +106,7 @@ module _ (N B : ℕ) (p : Plan) (total b : ℕ) (c : List ℕ) (budget : ℕ) (q
 -- ---- there was room, and so nothing moved
 
 module _ (N B : ℕ) (p : Plan) (total b : ℕ) (c : List ℕ) (budget : ℕ) (r : Room) (s : Image) (t : Places) (a : Plannable N B p (length s)) (room : p.slot < B) (left : r.left ≡ budget) (first : r.first.0 ≡ p.first.0)
-    (used : r.used ≡ p.used) (slot : r.slot ≡ p.slot) (o : Found) (seen : entry_seen B s (get_or t b 0) ≡ entry_for o) where
+    (used : r.used ≡ p.used) (slot : r.slot ≡ p.slot) (o : Option FoundSlot) (seen : entry_seen B s (get_or t b 0) ≡ Ok o) where
   pub there_placed : length c ≤ 248 → Placed N B r o c budget (length s)
   there_placed short =
       let m : RoomMade N B r c budget (length s) = record { sized = a.sized; some = omega (arith, used, a.some); few = omega (arith, used, a.spare, a.sized.segments); short = short; left = omega (arith, left) } in

@@ -16,7 +16,6 @@ use Rattle.model.specs.Table.{lookup, contents_found}
 use Rattle.model.specs.Answers.{code_of, put, work_of, Outcome, performed, outcome_of}
 use Rattle.model.specs.Mounted.{Places, least_places, place_entry}
 use Rattle.model.specs.declared.Performed.{Performed}
-use Rattle.model.specs.declared.SlotPlace.{SlotPlace}
 use Rattle.model.proofs.Laws.Chip.{size_facts, run_size}
 use Rattle.model.proofs.Laws.SlotPage.{number_below}
 use Rattle.bridge.specs.Allowance.{Ends, ends}
@@ -26,11 +25,10 @@ use Rattle.bridge.specs.Requests as requests
 use Rattle.bridge.specs.Views.Entries.{Moved, room_moved}
 use Rattle.bridge.specs.Views.EntriesAfter.{put_entry}
 use Rattle.bridge.specs.Views.Room.{Made, room_made}
-use Rattle.find.specs.declared.Found.{Found}
-use Rattle.find.specs.declared.Found.TheVariants.{At, Nothing}
-use Rattle.find.specs.Search.{rows_at, found_in}
-use Rattle.places.specs.declared.Entry.TheVariants as entries
-use Rattle.places.specs.Places.{entry_seen, entered_from, noted}
+use Rattle.std.specs.Prelude.{Option, None, Ok}
+use Rattle.find.specs.declared.FoundSlot.{FoundSlot}
+use Rattle.find.specs.Search.{rows_at, slot_found, found_in}
+use Rattle.places.specs.Places.{absent, stale, entry_seen, entered_from, noted}
 use Rattle.places.proofs.Laws.Entered.{entered_from_length, entered_entry, entered_zero}
 use Rattle.bridge.specs.Mounting.{Kept}
 use Rattle.places.proofs.Laws.Found.{found_entry, kept_seen, number_above}
@@ -40,22 +38,19 @@ use Rattle.room.specs.Room.{Roomed}
 use Rattle.room.proofs.Laws.{top_is}
 use Rattle.put.specs.Writing.{Accepted, Ready}
 use Rattle.put.proofs.Laws.Put.{room_made_held, room_found, room_ready, put_done}
-use Rattle.mounted_write.specs.Continuing.{entry_for, Written, Stopped}
+use Rattle.mounted_write.specs.Continuing.{Written, Stopped}
 
 -- ---- what a lookup sees, as what a search finds
 
-found_as : (o : Found) (x : Bool) (q : SlotPlace) (n : ℕ) → entry_for o ≡ cond x (entries.At q n) entries.Absent → o ≡ cond x (At q n) Nothing
-unfolding entry_for
-found_as (At p m) true q n e = let y : p ≡ q = cc in let z : m ≡ n = cc in rw (y, z)
-found_as (At p m) false q n e = absurd (let z : ◌≡◌ {A = ℕ} 0 1 = cc in omega arith)
-found_as Nothing true q n e = absurd (let z : ◌≡◌ {A = ℕ} 0 1 = cc in omega arith)
-found_as Nothing false q n e = refl
+found_as : (o : Option FoundSlot) (x : Bool) (at n : ℕ) → Ok o ≡ cond x (Ok (slot_found at n)) absent → o ≡ cond x (slot_found at n) None
+found_as o true at n e = cc
+found_as o false at n e = cc
 
-never_stale : (x : Bool) (q : SlotPlace) (n : ℕ) → entries.Stale ≡ cond x (entries.At q n) entries.Absent → ⊥
-never_stale true q n e = let z : ◌≡◌ {A = ℕ} 0 1 = cc in omega arith
-never_stale false q n e = let z : ◌≡◌ {A = ℕ} 0 1 = cc in omega arith
+never_stale : (x : Bool) (at n : ℕ) → stale ≡ cond x (Ok (slot_found at n)) absent → ⊥
+never_stale true at n e = let z : ◌≡◌ {A = ℕ} 0 1 = cc in omega arith
+never_stale false at n e = let z : ◌≡◌ {A = ℕ} 0 1 = cc in omega arith
 
-module _ (N B : ℕ) (p : Plan) (total : ℕ) (f : Found) (b : ℕ) (c : List ℕ) (s : Image) (a : Accepted N B p total f b c s) (budget : ℕ) (r : Room) (x : Image) (d : Roomed N B budget r s x) (left : r.left ≡ 0 → ⊥) (t : Places)
+module _ (N B : ℕ) (p : Plan) (total : ℕ) (f : Option FoundSlot) (b : ℕ) (c : List ℕ) (s : Image) (a : Accepted N B p total f b c s) (budget : ℕ) (r : Room) (x : Image) (d : Roomed N B budget r s x) (left : r.left ≡ 0 → ⊥) (t : Places)
     (k : Kept N B s t) where
   abbrev v : View
   v = view N B s
@@ -116,8 +111,8 @@ module _ (N B : ℕ) (p : Plan) (total : ℕ) (f : Found) (b : ℕ) (c : List �
   seen_is : entry_seen B x (get_or mended b 0) ≡ found_entry N B b roomed
   seen_is = kept_seen N B b x mended mended_kept a.put.number ∙ ap (found_entry N B b) h.view
 
-  old_found : (o : Found) → entry_seen B x (get_or mended b 0) ≡ entry_for o → o ≡ found_in N B r.first.0 (rows_at N B x r.used r.first.0) b
-  old_found o e = found_as o (holds b (entries_in roomed)) (record { 0 = slot_at N B (place_of b roomed).number (place_of b roomed).slot * 256 }) (length (contents_found (lookup b (entries_in roomed)))) (sym e ∙ seen_is)
+  old_found : (o : Option FoundSlot) → entry_seen B x (get_or mended b 0) ≡ Ok o → o ≡ found_in N B r.first.0 (rows_at N B x r.used r.first.0) b
+  old_found o e = found_as o (holds b (entries_in roomed)) (slot_at N B (place_of b roomed).number (place_of b roomed).slot * 256) (length (contents_found (lookup b (entries_in roomed)))) (sym e ∙ seen_is)
       ∙ sym (room_found N B p total f b c s a budget r x d left)
 
   pub not_stopped : {q : Performed} {u : Image} {w : Places} → Stopped B r b budget q x u (entered_from N B x (r.first.0 + r.used - (p.first.0 + p.used)) (p.first.0 + p.used) t) w → ⊥
@@ -127,7 +122,7 @@ module _ (N B : ℕ) (p : Plan) (total : ℕ) (f : Found) (b : ℕ) (c : List �
 
   -- ---- the slot written and noted
 
-  module _ (bytes : Bytes c) (o : Found) (q : Performed) (u : Image) (w : Places) (z : Written N B r o b c budget q x u (entered_from N B x (r.first.0 + r.used - (p.first.0 + p.used)) (p.first.0 + p.used) t) w) where
+  module _ (bytes : Bytes c) (o : Option FoundSlot) (q : Performed) (u : Image) (w : Places) (z : Written N B r o b c budget q x u (entered_from N B x (r.first.0 + r.used - (p.first.0 + p.used)) (p.first.0 + p.used) t) w) where
     pub written_outcome : performed q u ≡ outcome_of N B s budget (put b c)
     written_outcome = put_done N B p total f b c s a budget r x d left o (old_found o z.seen) z.wrote
 

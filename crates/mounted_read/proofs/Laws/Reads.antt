@@ -16,11 +16,12 @@ use Rattle.model.specs.Answers.{code_of, ◌when◌, first_of}
 use Rattle.model.specs.Sequences.{among}
 use Rattle.model.specs.declared.Answer.{Answer}
 use Rattle.model.specs.declared.Answer.TheVariants.{Damaged, Absent as NotStored}
-use Rattle.model.specs.declared.SlotPlace.{SlotPlace}
 use Rattle.model.specs.Mounted.{Places, least_places, mounted_refusals, mounted_refusal, MountedRead}
 use Rattle.bridge.specs.Refusals.{read_number, read_absent, read_found}
-use Rattle.places.specs.declared.Entry.TheVariants.{At, Absent, Stale}
-use Rattle.places.specs.Places.{entry_seen}
+use Rattle.std.specs.Prelude.{Some, Ok}
+use Rattle.find.specs.declared.FoundSlot.{FoundSlot}
+use Rattle.find.specs.Search.{slot_found}
+use Rattle.places.specs.Places.{absent, stale, entry_seen}
 use Rattle.bridge.specs.Mounting.{Kept, in_step_kept}
 use Rattle.places.proofs.Laws.Found.{found_entry, kept_seen}
 use Rattle.places.proofs.Laws.Seen.{Believed, seen_believed}
@@ -53,8 +54,8 @@ module _ (N B : ℕ) (s : Image) (t : Places) (b : ℕ) (k : Kept N B s t) where
       go false n = let two : code_of a ≡ 2 = e ∙ (r ∙ rw n) in record { code = read_number N B s k.size b n ∙ sym two; some = rw two }
 
   -- where the block's slot is, and the length of its contents
-  abbrev slot : SlotPlace
-  slot = record { 0 = slot_at N B (place_of b (view N B s)).number (place_of b (view N B s)).slot * 256 }
+  abbrev slot : ℕ
+  slot = slot_at N B (place_of b (view N B s)).number (place_of b (view N B s)).slot * 256
 
   abbrev size : ℕ
   size = length (contents_found (lookup b (entries_in (view N B s))))
@@ -63,39 +64,39 @@ module _ (N B : ℕ) (s : Image) (t : Places) (b : ℕ) (k : Kept N B s t) where
     seen : entry_seen B s (get_or t b 0) ≡ found_entry N B b (view N B s)
     seen = kept_seen N B b s t k n
 
-    pub seen_there : (p : SlotPlace) (l : ℕ) → entry_seen B s (get_or t b 0) ≡ At p l → There N B s b p.0 l
-    seen_there p l e = go (holds b (entries_in (view N B s))) refl
+    pub seen_there : (x : FoundSlot) → entry_seen B s (get_or t b 0) ≡ Ok (Some x) → There N B s b x.place.0 x.length
+    seen_there x e = go (holds b (entries_in (view N B s))) refl
       where
-        i : Believed B s (get_or t b 0) p l
-        i = seen_believed B s (get_or t b 0) p l e
+        i : Believed B s (get_or t b 0) x
+        i = seen_believed B s (get_or t b 0) x e
 
-        go : (x : Bool) → holds b (entries_in (view N B s)) ≡ x → There N B s b p.0 l
-        go true h = let q : At p l ≡ At slot size = sym e ∙ (seen ∙ rw h) in record {
+        go : (y : Bool) → holds b (entries_in (view N B s)) ≡ y → There N B s b x.place.0 x.length
+        go true h = let q : Ok (Some x) ≡ Ok (slot_found slot size) = sym e ∙ (seen ∙ rw h) in record {
           code = read_found N B s k.size b n k.fine h;
-          place = let z : p ≡ slot = cc in ap (λ (y : SlotPlace). y.0) z;
-          count = cc;
+          place = let z : x ≡ record { place = record { 0 = slot }; length = size } = cc in ap (λ (y : FoundSlot). y.place.0) z;
+          count = let z : x ≡ record { place = record { 0 = slot }; length = size } = cc in ap (λ (y : FoundSlot). y.length) z;
           inside = omega (arith, i.place, i.inside);
           short = i.short;
         }
-        go false h = let q : At p l ≡ Absent = sym e ∙ (seen ∙ rw h) in absurd (let z : ◌≡◌ {A = ℕ} 0 1 = cc in omega arith)
+        go false h = let q : Ok (Some x) ≡ absent = sym e ∙ (seen ∙ rw h) in absurd (let z : ◌≡◌ {A = ℕ} 0 1 = cc in omega arith)
 
-    pub seen_none : entry_seen B s (get_or t b 0) ≡ Absent → holds b (entries_in (view N B s)) ≡ false
+    pub seen_none : entry_seen B s (get_or t b 0) ≡ absent → holds b (entries_in (view N B s)) ≡ false
     seen_none e = go (holds b (entries_in (view N B s))) refl
       where
         go : (x : Bool) → holds b (entries_in (view N B s)) ≡ x → x ≡ false
         go false h = refl
-        go true h = let q : Absent ≡ At slot size = sym e ∙ (seen ∙ rw h) in absurd (let z : ◌≡◌ {A = ℕ} 0 1 = cc in omega arith)
+        go true h = let q : absent ≡ Ok (slot_found slot size) = sym e ∙ (seen ∙ rw h) in absurd (let z : ◌≡◌ {A = ℕ} 0 1 = cc in omega arith)
 
-    pub seen_absent : entry_seen B s (get_or t b 0) ≡ Absent → Refuses N B s b NotStored
+    pub seen_absent : entry_seen B s (get_or t b 0) ≡ absent → Refuses N B s b NotStored
     unfolding code_of
     seen_absent e = record { code = read_absent N B s k.size b n k.fine (seen_none e); some = refl }
 
-    pub seen_stale : entry_seen B s (get_or t b 0) ≡ Stale → ⊥
+    pub seen_stale : entry_seen B s (get_or t b 0) ≡ stale → ⊥
     seen_stale e = go (holds b (entries_in (view N B s))) refl
       where
         go : (x : Bool) → holds b (entries_in (view N B s)) ≡ x → ⊥
-        go true h = let q : Stale ≡ At slot size = sym e ∙ (seen ∙ rw h) in let z : ◌≡◌ {A = ℕ} 0 1 = cc in omega arith
-        go false h = let q : Stale ≡ Absent = sym e ∙ (seen ∙ rw h) in let z : ◌≡◌ {A = ℕ} 0 1 = cc in omega arith
+        go true h = let q : stale ≡ Ok (slot_found slot size) = sym e ∙ (seen ∙ rw h) in let z : ◌≡◌ {A = ℕ} 0 1 = cc in omega arith
+        go false h = let q : stale ≡ absent = sym e ∙ (seen ∙ rw h) in let z : ◌≡◌ {A = ℕ} 0 1 = cc in omega arith
 
 -- ---- the contract
 
@@ -111,7 +112,7 @@ module _ (N B : ℕ) (s : Image) (t : Places) (b : ℕ) where
   }
 
   module _ (p : mounted_refusal N B s t b true ≡ 0) where
-    pub read_absent_entry : entry_seen B s (get_or t b 0) ≡ Absent → MountedRead N B b (record { code = code_of NotStored; offset = 0; length = 0 }) s t
+    pub read_absent_entry : entry_seen B s (get_or t b 0) ≡ absent → MountedRead N B b (record { code = code_of NotStored; offset = 0; length = 0 }) s t
     unfolding code_of among
     read_absent_entry e = record {
       bound = λ n. absurd (n p);
@@ -121,7 +122,7 @@ module _ (N B : ℕ) (s : Image) (t : Places) (b : ℕ) where
       same = λ step. read_refused N B s b NotStored (seen_absent N B s t b (in_step_kept N B s t step) (passed N B s t b true p).number e);
     }
 
-    pub read_stale_entry : entry_seen B s (get_or t b 0) ≡ Stale → MountedRead N B b (record { code = code_of Damaged; offset = 0; length = 0 }) s t
+    pub read_stale_entry : entry_seen B s (get_or t b 0) ≡ stale → MountedRead N B b (record { code = code_of Damaged; offset = 0; length = 0 }) s t
     unfolding code_of among
     read_stale_entry e = record {
       bound = λ n. absurd (n p);
@@ -131,12 +132,12 @@ module _ (N B : ℕ) (s : Image) (t : Places) (b : ℕ) where
       same = λ step. absurd (seen_stale N B s t b (in_step_kept N B s t step) (passed N B s t b true p).number e);
     }
 
-    pub read_entry : (q : SlotPlace) (l : ℕ) → entry_seen B s (get_or t b 0) ≡ At q l → MountedRead N B b (record { code = 0; offset = q.0 + 8; length = l }) s t
+    pub read_entry : (x : FoundSlot) → entry_seen B s (get_or t b 0) ≡ Ok (Some x) → MountedRead N B b (record { code = 0; offset = x.place.0 + 8; length = x.length }) s t
     unfolding among most_contents
-    read_entry q l e = let i = seen_believed B s (get_or t b 0) q l e in record {
+    read_entry x e = let i = seen_believed B s (get_or t b 0) x e in record {
       bound = λ n. absurd (n p);
       listed = λ z. refl;
       refused = λ n. absurd (n refl);
       inside = (omega (arith, i.place, i.inside, i.short), i.short);
-      same = λ step. read_there N B s b q.0 l (seen_there N B s t b (in_step_kept N B s t step) (passed N B s t b true p).number q l e);
+      same = λ step. read_there N B s b x.place.0 x.length (seen_there N B s t b (in_step_kept N B s t step) (passed N B s t b true p).number x e);
     }

@@ -15,36 +15,36 @@ returns-in_default c =
     let n = c.nowhere.ensures in
     rw (n.0, n.1, n.2) (read_bound a.segments a.slots a.image.now a.places.now a.block.0 _ c.refusal-refused.ensures (λ z. refusing_code _ c.in_default.not-Done (c.refusal-refused.ensures ∙ z)))
 
-pub look_up-entry-requires : goal.look_up-entry-requires
-look_up-entry-requires c =
+pub look_up-requires : goal.look_up-requires
+look_up-requires c =
     let a = c.args in
     slots_few a.segments a.slots a.image.now a.places.now a.block.0 _ (none_refuses a.segments a.slots a.image.now a.places.now a.block.0 _ _ c.refusal-refused.ensures c.in-Done.is)
 
 pub overflow_add-result : goal.overflow_add-result
 overflow_add-result c =
     let a = c.args in
-    let i = seen_believed a.slots a.image.now (get_or a.places.now a.block.0 0) _ _ (sym c.look_up-entry.ensures ∙ c.in-At.is) in
+    let i = seen_believed a.slots a.image.now (get_or a.places.now a.block.0 0) _ (sym c.look_up.ensures ∙ (rw c.in-Ok-Some.field-0-is at c.in-Ok-Some.is)) in
     omega (arith, i.place, i.inside)
 
-pub returns-in-At : goal.returns-in-At
+pub returns-in-Ok-Some : goal.returns-in-Ok-Some
 unfolding located code_of
-returns-in-At c =
+returns-in-Ok-Some c =
     let a = c.args in
-    read_entry a.segments a.slots a.image.now a.places.now a.block.0 (none_refuses a.segments a.slots a.image.now a.places.now a.block.0 _ _ c.refusal-refused.ensures c.in-Done.is) _ _
-    (sym c.look_up-entry.ensures ∙ c.in-At.is)
+    read_entry a.segments a.slots a.image.now a.places.now a.block.0 (none_refuses a.segments a.slots a.image.now a.places.now a.block.0 _ _ c.refusal-refused.ensures c.in-Done.is) _
+    (sym c.look_up.ensures ∙ (rw c.in-Ok-Some.field-0-is at c.in-Ok-Some.is))
 
-pub returns-in-Absent : goal.returns-in-Absent
+pub returns-in-Ok-None : goal.returns-in-Ok-None
 unfolding located
-returns-in-Absent c =
+returns-in-Ok-None c =
     let a = c.args in
-    let n = c.nowhere-in-Absent.ensures in
+    let n = c.nowhere-in-Ok-None.ensures in
     rw (n.0, n.1, n.2) (read_absent_entry a.segments a.slots a.image.now a.places.now a.block.0 (none_refuses a.segments a.slots a.image.now a.places.now a.block.0 _ _ c.refusal-refused.ensures c.in-Done.is)
-    (sym c.look_up-entry.ensures ∙ c.in-Absent.is))
+    (sym c.look_up.ensures ∙ (rw c.in-Ok-None.field-0-is at c.in-Ok-None.is)))
 
-pub returns-in-Stale : goal.returns-in-Stale
+pub returns-in-Err : goal.returns-in-Err
 unfolding located
-returns-in-Stale c =
+returns-in-Err c =
     let a = c.args in
-    let n = c.nowhere-in-Stale.ensures in
+    let n = c.nowhere-in-Err.ensures in
     rw (n.0, n.1, n.2) (read_stale_entry a.segments a.slots a.image.now a.places.now a.block.0 (none_refuses a.segments a.slots a.image.now a.places.now a.block.0 _ _ c.refusal-refused.ensures c.in-Done.is)
-    (sym c.look_up-entry.ensures ∙ c.in-Stale.is))
+    (sym c.look_up.ensures ∙ c.in-Err.is))

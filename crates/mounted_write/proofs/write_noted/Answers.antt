@@ -5,7 +5,7 @@ use Rattle.mounted_write.proofs.write_noted.Goals as goal
 pub note-requires : goal.note-requires
 note-requires c =
     let a = c.args in
-    (c.requires.1, place_fits a.segments a.slots a.room a.old a.block.0 a.contents.now a.budget a.image.now c.requires.0 _ c.free_place-place.ensures)
+    (c.requires.1, place_fits a.geometry.segments a.geometry.slots a.room a.old a.block.0 a.contents.now a.budget a.image.now c.requires.0 _ c.free_place-place.ensures)
 
 pub returns : goal.returns
 returns c =

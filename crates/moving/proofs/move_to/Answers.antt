@@ -17,16 +17,11 @@ survey-surveyed-requires c =
 
 pub returns-then-not-right_size : goal.returns-then-not-right_size
 returns-then-not-right_size c =
-    let a = c.args in
-    wrong_source a.segments a.slots a.source.now a.target_segments a.target_slots a.target.now a.budget
-    (wrong_size a.segments a.slots a.source.now _ c.right_size.ensures c.if-not-right_size.true) c.refused.ensures
+    wrong_source _ _ _ _ _ _ _ (wrong_size _ _ _ _ c.right_size.ensures c.if-not-right_size.true) c.refused.ensures
 
 pub returns-then-not-right_size-2 : goal.returns-then-not-right_size-2
 returns-then-not-right_size-2 c =
-    let a = c.args in
-    wrong_target a.segments a.slots a.source.now a.target_segments a.target_slots a.target.now a.budget
-    (right_size_lem a.segments a.slots a.source.now _ c.right_size.ensures c.if-not-right_size.false)
-    (wrong_size a.target_segments a.target_slots a.target.now _ c.right_size-2.ensures c.if-not-right_size-2.true) c.refused-then-not-right_size-2.ensures
+    wrong_target _ _ _ _ _ _ _ (right_size_lem _ _ _ _ c.right_size.ensures c.if-not-right_size.false) (wrong_size _ _ _ _ c.right_size-2.ensures c.if-not-right_size-2.true) c.refused-then-not-right_size-2.ensures
 
 pub returns-in_default : goal.returns-in_default
 returns-in_default c =

@@ -1,19 +1,12 @@
 -- `partition_items::carry_item` is the new data, the old data or nothing, by the two tests of the definition. Assumes nothing.
-use mathlib.Core.Logic.{inl, inr, ⊎_elim}
-use native.Mathlib.Omega.{arith}
 use Rattle.flash.proofs.Laws.{◌then◌}
 use Rattle.partition_items.proofs.Carrying.{carry_new, carry_old, carry_none}
-use borrow.Author.Rules.{rules}
 use Rattle.partition_items.proofs.carry_item.Goals as goal
 
 pub returns-then-identifier-item : goal.returns-then-identifier-item
 returns-then-identifier-item c =
     let a = c.args in
     carry_new a.image.now a.from a.to a.identifier a.size a.item a.contents.now c.if-identifier-item.true c.write_item.ensures
-
--- after `returns-then-identifier-item`, so that a test of another item is refused for what is written, and not for where
-pub write_item-requires : goal.write_item-requires
-write_item-requires c = omega (arith, c.requires.own c.if-identifier-item.true)
 
 -- before `returns-then-image-from`, so that a test of another byte is refused for the item that is copied
 pub returns : goal.returns
@@ -26,8 +19,3 @@ pub returns-then-image-from : goal.returns-then-image-from
 returns-then-image-from c =
     let a = c.args in
     carry_none a.image.now a.from a.to a.identifier a.size a.item a.contents.now a.budget c.if-identifier-item.false c.if-image-from.true
-
-pub copy_data-left-requires : goal.copy_data-left-requires
-copy_data-left-requires c =
-    let p = c.requires in
-    (search rules, search rules, ⊎_elim (λ l. inl (omega arith)) (λ l. inr (omega arith)) p.apart)

@@ -14,12 +14,12 @@ unfolding programs run
 loop-i-init c = (λ B. refl, omega arith, omega arith, refl)
 
 pub overflow_sub-left : goal.overflow_sub-left
-overflow_sub-left c = omega (arith, c.loop-i.invariant.1, c.least-covered.ensures)
+overflow_sub-left c = omega (arith, c.loop-i.invariant.1, c.min-covered.ensures)
 
 pub loop-i-preserved : goal.loop-i-preserved
 loop-i-preserved c =
     let a = c.args in
-    let e = c.least-covered.ensures in (
+    let e = c.min-covered.ensures in (
       copied_turn a.from a.to a.size c.loop-i.i a.image.now c.loop-i.image c.requires.0 c.requires.2 (omega (arith, e)) c.loop-i.invariant.0,
       omega (arith, c.loop-i.invariant.1),
       omega (arith, e),
@@ -29,7 +29,7 @@ loop-i-preserved c =
 pub returns : goal.returns
 returns c =
     let a = c.args in
-    let e = c.least-covered.ensures in
+    let e = c.min-covered.ensures in
     let paid : c.loop-i.left ≡ a.budget - c.loop-i.i = c.loop-i.invariant.1 in
     let all : c.loop-i.i ≡ min a.budget (length (take a.size (drop a.from a.image.now))) = rw (copied_length a.from a.size a.image.now c.requires.0) (omega (arith, e)) in
     rw paid (programs_covered a.to a.budget c.loop-i.i (take a.size (drop a.from a.image.now)) a.image.now c.loop-i.image all c.loop-i.invariant.0)

@@ -8,6 +8,3 @@ use Rattle.partition_items.proofs.copy_data.Given as goal
 abbrev pub invariant-loop-i : goal.invariant-loop-i
 invariant-loop-i l =
     ProgrammedTo l.to l.i (take l.size (drop l.from l.initial.image)) l.initial.image l.image × (l.left ≡ l.budget - l.i) × (l.i ≤ min l.budget l.size) × (length l.image ≡ length l.initial.image)
-
-abbrev pub decreases-loop-i : goal.decreases-loop-i
-decreases-loop-i l = l.size - l.i

@@ -1,11 +1,7 @@
 -- `partition_layout::find_item`. The invariant: the item looked for is among those left, and the bytes so far and those of the items left are all of them. Assumes nothing.
-use Prim.Native.Nat.{◌-◌}
-use lib.ListN.{length}
+use mathlib.Core.Path.{◌≡◌}
 use Rattle.partition_layout.proofs.Walk.{Sought}
 use Rattle.partition_layout.proofs.find_item.Given as goal
 
-abbrev pub invariant-loop-at : goal.invariant-loop-at
-invariant-loop-at l = Sought l.layout l.item l.offset l.at
-
-abbrev pub decreases-loop-at : goal.decreases-loop-at
-decreases-loop-at l = length l.layout - l.at
+abbrev pub invariant-loop-pair : goal.invariant-loop-pair
+invariant-loop-pair l = (l.pair-iterator.size ≡ 2) × Sought l.layout l.item l.offset l.pair-iterator.rest.now

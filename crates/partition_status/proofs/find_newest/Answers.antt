@@ -1,56 +1,46 @@
 -- `partition_status::find_newest`. The invariant: what is known of the partitions looked at. Assumes nothing.
-use Prim.Native.Nat.{◌*◌, ◌<◌}
-use mathlib.Core.Path.{◌≡◌}
-use native.Mathlib.Nat.{zero-mul}
+use Prim.Native.Nat.{◌*◌, ◌<◌, ◌≤◌}
+use mathlib.Core.Path.{◌≡◌, sym, ap, ◌∙◌}
+use mathlib.Core.Bool.{not}
 use native.Mathlib.Omega.{arith}
 use Rattle.partitions.specs.Partitions.{next_partition}
 use Rattle.partition_status.specs.Said.{said}
-use Rattle.partition_status.proofs.Laws.{inside, next_below, looked_none, found_no_partition, goes_on, place_first, place_inner, looked_end, looked_inner, found_second, found_one, found_ring, found_nothing}
+use Rattle.partition_status.proofs.Laws.{inside, next_below, looked_none, found_no_partition, place_first, place_inner, looked_end, looked_inner, found_second, found_one, found_ring, found_nothing}
 use Rattle.partition_status.proofs.find_newest.Goals as goal
-use Rattle.partition_status.proofs.find_newest.Goals.{then-partition-highest, else-partition-highest, then-ends_run+else-ends-gt0, else-ends_run}
+use Rattle.partition_status.proofs.find_newest.Goals.{then-partition-highest, else-partition-highest, then-ends_run+else-is_some, else-is_none-via-then-is_none+else-status, else-is_none-via-else-is_none, else-ends_run}
 
 pub returns-then-partitions-eq0 : goal.returns-then-partitions-eq0
 unfolding said
 returns-then-partitions-eq0 c = let a = c.args in found_no_partition a.partitions a.size a.image.now (omega (arith, c.if-partitions-eq0.true))
 
-pub bounds-image-0 : goal.bounds-image-0
-bounds-image-0 c =
-    omega (arith, zero-mul c.args.size, inside c.args.partitions c.args.size 0 _ (omega (arith, c.if-partitions-eq0.false)) c.requires.0 c.requires.1)
-
 pub loop-partition-init : goal.loop-partition-init
 loop-partition-init c = let a = c.args in looked_none a.partitions a.size a.image.now (omega (arith, c.if-partitions-eq0.false))
-
-pub overflow_add-at : goal.overflow_add-at
-overflow_add-at c =
-    omega (arith, c.requires.1, goes_on c.loop-partition.invariant (omega (arith, c.loop-partition-test.true)))
-
-pub returns-then-ends-gt0-2 : goal.returns-then-ends-gt0-2
-unfolding said
-returns-then-ends-gt0-2 c =
-    let v = c.loop-partition in
-    found_one v.invariant (omega (arith, c.loop-partition-test.false)) (omega (arith, c.if-partitions-eq0.false)) (omega (arith, c.if-ends-gt0-2.true))
 
 pub returns-then-status : goal.returns-then-status
 unfolding said
 returns-then-status c =
     let v = c.loop-partition in
-    found_ring v.invariant (omega (arith, c.loop-partition-test.false)) (omega (arith, c.if-partitions-eq0.false)) (λ o. omega (arith, c.if-ends-gt0-2.false)) (λ n. omega (arith, c.if-status.true))
+    found_ring v.invariant (omega (arith, c.loop-partition-test.false)) (omega (arith, c.if-partitions-eq0.false)) (c.is_none.ensures ∙ ap not c.if-is_none.true) (λ n. omega (arith, c.if-status.true))
 
 pub returns : goal.returns
-unfolding said
 returns c =
     let v = c.loop-partition in
-    found_nothing v.invariant (omega (arith, c.loop-partition-test.false)) (omega (arith, c.if-partitions-eq0.false)) (λ o. omega (arith, c.if-ends-gt0-2.false)) (omega (arith, c.if-status.false))
+    let all : c.args.partitions ≤ v.partition = omega (arith, c.loop-partition-test.false) in
+    let some : 0 < c.args.partitions = omega (arith, c.if-partitions-eq0.false) in
+    elim c.else-is_none.branch [
+      | else-is_none-via-then-is_none+else-status w ↦ found_nothing v.invariant all some (c.is_none.ensures ∙ ap not w.if-is_none.true) (omega (arith, w.if-status.false))
+      | else-is_none-via-else-is_none w ↦ found_one v.invariant all some (c.is_none.ensures ∙ ap not w.if-is_none.false)
+    ]
 
-pub returns-then-ends-gt0 : goal.returns-then-ends-gt0
+pub returns-then-is_some : goal.returns-then-is_some
 unfolding said
-returns-then-ends-gt0 c =
+returns-then-is_some c =
     let v = c.loop-partition in
     let a = c.args in
     let more : v.partition < a.partitions = omega (arith, c.loop-partition-test.true) in
     let place : c.if-partition-highest.at ≡ next_partition a.partitions v.partition * a.size =
     elim c.if-partition-highest.branch [ then-partition-highest w ↦ place_first v.invariant more w.if-partition-highest.true w.at-is | else-partition-highest w ↦ place_inner v.invariant more w.if-partition-highest.false w.at-is ] in
-    found_second v.invariant more place c.ends_run.ensures c.if-ends_run.true (omega (arith, c.if-ends-gt0.true))
+    found_second v.invariant more place c.ends_run.ensures c.if-ends_run.true (sym c.is_some.ensures ∙ c.if-is_some.true)
 
 pub loop-partition-preserved : goal.loop-partition-preserved
 loop-partition-preserved c =
@@ -61,8 +51,8 @@ loop-partition-preserved c =
     elim c.if-partition-highest.branch [ then-partition-highest w ↦ place_first v.invariant more w.if-partition-highest.true w.at-is | else-partition-highest w ↦ place_inner v.invariant more w.if-partition-highest.false w.at-is ] in
     let ran = c.ends_run.ensures in
     elim c.if-ends_run.branch [
-      | then-ends_run+else-ends-gt0 w ↦ looked_end v.invariant more place ran w.if-ends_run.true (λ o. omega (arith, w.if-ends-gt0.false)) w.ends-is w.last-is
-      | else-ends_run w ↦ looked_inner v.invariant more place ran w.if-ends_run.false w.ends-is w.last-is
+      | then-ends_run+else-is_some w ↦ looked_end v.invariant more place ran w.if-ends_run.true (sym w.is_some.ensures ∙ w.if-is_some.false) w.newest-is
+      | else-ends_run w ↦ looked_inner v.invariant more place ran w.if-ends_run.false w.newest-is
     ]
 
 -- after `loop_again`, so that another next partition is refused for its status, and not for where that stands

@@ -6,6 +6,7 @@ use Rattle.partition_store.proofs.Answering.{refused_worked, work_nothing, work_
 use Prim.Native.Nat.{◌/◌}
 use native.Mathlib.Omega.{arith}
 use lib.ListN.{length}
+use Rattle.std.specs.Prelude.{Ok}
 use Rattle.partitions.specs.Answers.{number_of, wrote}
 use native.Mathlib.Nat.{div-le_self}
 use Rattle.partition_store.proofs.Asking.{stands, board_whole, said_below}
@@ -16,8 +17,8 @@ nonzero_div-size c =
     let a = c.args in
     omega (arith, (stands a.partitions a.layout.now a.image.now a.item a.at _ c.requires).some)
 
-pub find_newest-newest-requires : goal.find_newest-newest-requires
-find_newest-newest-requires c =
+pub find_newest-requires : goal.find_newest-requires
+find_newest-requires c =
     let a = c.args in
     let z = stands a.partitions a.layout.now a.image.now a.item a.at _ c.requires in
     (omega (arith, z.inside), omega (arith, board_whole a.partitions (length a.image.now) z.even))
@@ -31,21 +32,21 @@ write_first-requires c =
 pub write_newest-requires : goal.write_newest-requires
 write_newest-requires c =
     let a = c.args in
-    (c.requires, said_below a.partitions _ a.image.now c.find_newest-newest.ensures c.in-At.is)
+    (c.requires, said_below a.partitions _ a.image.now c.find_newest.ensures (c.in-Ok-Some.is ∙ ap Ok c.in-Ok-Some.field-0-is))
 
-pub returns-in-Nothing : goal.returns-in-Nothing
-returns-in-Nothing c =
+pub returns-in-Ok-None : goal.returns-in-Ok-None
+returns-in-Ok-None c =
     let a = c.args in
-    rw (work_nothing a.partitions a.layout.now a.image.now a.item a.at a.contents.now c.requires c.find_newest-newest.ensures c.in-Nothing.is) c.write_first.ensures
+    rw (work_nothing a.partitions a.layout.now a.image.now a.item a.at a.contents.now c.requires c.find_newest.ensures (c.in-Ok-None.is ∙ ap Ok c.in-Ok-None.field-0-is)) c.write_first.ensures
 
-pub returns-in-At : goal.returns-in-At
-returns-in-At c =
+pub returns-in-Ok-Some : goal.returns-in-Ok-Some
+returns-in-Ok-Some c =
     let a = c.args in
-    rw (work_newest a.partitions a.layout.now a.image.now a.item a.at a.contents.now c.requires c.find_newest-newest.ensures c.in-At.is) c.write_newest.ensures
+    rw (work_newest a.partitions a.layout.now a.image.now a.item a.at a.contents.now c.requires c.find_newest.ensures (c.in-Ok-Some.is ∙ ap Ok c.in-Ok-Some.field-0-is)) c.write_newest.ensures
 
-pub returns-in-NoRun : goal.returns-in-NoRun
+pub returns-in-Err : goal.returns-in-Err
 unfolding number_of
-returns-in-NoRun c =
+returns-in-Err c =
     let a = c.args in
     let s = a.image.now in
-    rw (work_none a.partitions a.layout.now a.image.now a.item a.at a.contents.now c.requires c.find_newest-newest.ensures c.in-NoRun.is) (ap (λ (w : Written). wrote w s) c.refused.ensures ∙ refused_worked (length s / a.partitions) Statuses s a.budget)
+    rw (work_none a.partitions a.layout.now a.image.now a.item a.at a.contents.now c.requires c.find_newest.ensures c.in-Err.is) (ap (λ (w : Written). wrote w s) c.refused.ensures ∙ refused_worked (length s / a.partitions) Statuses s a.budget)

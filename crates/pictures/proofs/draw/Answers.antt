@@ -8,4 +8,4 @@ pub returns : goal.returns
 returns c =
     let a = c.args in
     let w = c.map_rows-rows.ensures.0 then c.add_legend.ensures.0 in
-    wrote_as _ (drawn a.segments a.slots (segments_of a.segments a.slots a.image.now)) w
+    wrote_as _ (drawn a.geometry.segments a.geometry.slots (segments_of a.geometry.segments a.geometry.slots a.image.now)) w

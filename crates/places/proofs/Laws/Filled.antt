@@ -2,10 +2,10 @@
 use Prim.Native.Nat.{ℕ, ◌+◌, ◌≤◌, ◌<◌}
 use mathlib.Core.Path.{◌≡◌, refl, sym, ap, ◌∙◌}
 use mathlib.Core.Bool.{Bool, true, false, cond}
-use mathlib.Core.List.{flatten}
+use mathlib.Core.List.{◌++◌, flatten}
 use native.Mathlib.Omega.{arith}
-use lib.ListN.{length, get_or, drop, set, replicate, length-append, length-drop, length-set, length-replicate, get_or-replicate, get_or-append}
-use lib.Seq.{get_or-set_same, get_or-set_other, drop-set-lt, drop_at}
+use lib.ListN.{length, get_or, take, drop, set, replicate, length-append, length-drop, length-set, length-replicate, get_or-replicate, get_or-append}
+use lib.Seq.{length-take-le, get_or-set_same, get_or-set_other, drop-set-lt, drop_at}
 use Rattle.model.specs.Chip.{Image, Bytes, number_limit}
 use Rattle.model.specs.State.{View, entries, holds, view}
 use Rattle.model.specs.Steps.{top_number}
@@ -31,6 +31,11 @@ module _ (n : ℕ) (t : Places) where
   emptied_past : drop n (emptied n t) ≡ drop n t
   unfolding emptied
   emptied_past = drop_at (replicate n 0) (drop n t) n (length-replicate {A = ℕ} n 0)
+
+  -- its first n filled with 0
+  pub filled_zero : (x : Places) → n ≤ length t → x ≡ replicate (length (take n t)) 0 → x ++ drop n t ≡ emptied n t
+  unfolding emptied
+  filled_zero x h e = rw (e, length-take-le n t h) refl
 
 -- the length stays, also once segments are entered
 module _ (t : Places) (l : least_places ≤ length t) (w : Places) (empties : w ≡ emptied least_places t) where

@@ -21,9 +21,9 @@ use Rattle.model.proofs.Laws.SlotPage.{live_facts, number_below}
 use Rattle.model.proofs.Laws.Tables.{lookup_append}
 use Rattle.bridge.specs.Held.{Held, held_lengths, held_of_clean}
 use Rattle.bridge.specs.Views.Places.{FirstLive, first_live, earlier, later, fill_entries, InView, in_view}
-use Rattle.places.specs.declared.Entry.{Entry}
-use Rattle.places.specs.declared.Entry.TheVariants.{At, Absent}
-use Rattle.places.specs.Places.{entry_seen}
+use Rattle.std.specs.Prelude.{Ok}
+use Rattle.find.specs.Search.{slot_found}
+use Rattle.places.specs.Places.{Entry, absent, entry_seen}
 use Rattle.places.proofs.Laws.Seen.{Believed, seen_absent, believed_seen}
 use Rattle.bridge.specs.Mounting.{Kept, live_page}
 
@@ -32,7 +32,7 @@ use Rattle.bridge.specs.Mounting.{Kept, live_page}
 module _ (N B b : ℕ) (s : Image) (v : View) (h : Held N B s v) (f : FirstLive b v.first v.slots) where
   -- a place that is believed, with the length of the contents
   abbrev Stored : ℕ → Type 0
-  Stored e = Believed B s e (record { 0 = e }) (length (contents_found (lookup b (entries_in v))))
+  Stored e = Believed B s e (record { place = record { 0 = e }; length = length (contents_found (lookup b (entries_in v))) })
 
   abbrev c : List ℕ
   c = f.contents
@@ -84,7 +84,7 @@ module _ (N B b : ℕ) (s : Image) (v : View) (h : Held N B s v) (f : FirstLive 
   stored_first = subst (λ (p : Place). Stored ((p.number % N * (B + 1) + suc p.slot) * 256)) (sym f.place) stored
 
 pub stored_place : (N B b : ℕ) (s : Image) (v : View) → Held N B s v → holds b (entries_in v) ≡ true
-    → let e = slot_at N B (place_of b v).number (place_of b v).slot * 256 in Believed B s e (record { 0 = e }) (length (contents_found (lookup b (entries_in v))))
+    → let e = slot_at N B (place_of b v).number (place_of b v).slot * 256 in Believed B s e (record { place = record { 0 = e }; length = length (contents_found (lookup b (entries_in v))) })
 unfolding entries_in
 stored_place N B b s v h e = stored_first N B b s v h (first_live b v.first v.slots e)
 
@@ -92,14 +92,14 @@ stored_place N B b s v h e = stored_first N B b s v h (first_live b v.first v.sl
 
 -- what a lookup of block b finds in a view
 abbrev pub found_entry : ℕ → ℕ → ℕ → View → Entry
-found_entry N B b v = cond (holds b (entries_in v)) (At (record { 0 = slot_at N B (place_of b v).number (place_of b v).slot * 256 }) (length (contents_found (lookup b (entries_in v))))) Absent
+found_entry N B b v = cond (holds b (entries_in v)) (Ok (slot_found (slot_at N B (place_of b v).number (place_of b v).slot * 256) (length (contents_found (lookup b (entries_in v)))))) absent
 
 pub entry_seen_lem : (N B b : ℕ) (s : Image) (v : View) → Held N B s v → entry_seen B s (place_entry N B v b) ≡ found_entry N B b v
 unfolding place_entry
 entry_seen_lem N B b s v h = go (holds b (entries_in v)) refl
   where
     go : (x : Bool) → holds b (entries_in v) ≡ x → entry_seen B s (place_entry N B v b) ≡ found_entry N B b v
-    go true e = rw e (believed_seen B s (slot_at N B (place_of b v).number (place_of b v).slot * 256) _ _ (stored_place N B b s v h e))
+    go true e = rw e (believed_seen B s (slot_at N B (place_of b v).number (place_of b v).slot * 256) _ (stored_place N B b s v h e))
     go false e = rw e (sym (seen_absent B s 0 refl))
 
 pub number_above : (b : ℕ) → number_ok b ≡ true → 0 < b

@@ -10,7 +10,7 @@ loop-turn-init c = rounding_start _ _ _ _ _ _
 pub enter_slots-requires : goal.enter_slots-requires
 enter_slots-requires c =
     let z = c.requires.0 in (
-      omega (arith, c.first_slot-from.ensures, slots_within c.args.segments c.args.slots (c.args.first.0 + c.loop-turn.turn) _ z),
+      omega (arith, c.first_slot-from.ensures, slots_within c.args.geometry.segments c.args.geometry.slots (c.args.first.0 + c.loop-turn.turn) _ z),
       omega (arith, few_bytes _ _ _ z),
       omega (arith, c.requires.2, c.loop-turn.invariant.long),
     )

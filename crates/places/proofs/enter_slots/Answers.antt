@@ -1,4 +1,8 @@
 -- `places::enter_slots` enters the slots of the definition. The invariant: those that are left, entered, give the whole. Assumes nothing.
+use Prim.Native.Nat.{◌+◌, ◌*◌}
+use mathlib.Core.Path.{◌≡◌}
+use native.Mathlib.Omega.{arith}
+use lib.ListN.{get_or}
 use Rattle.places.proofs.Laws.Walk.{entering_start, entering_stop, entering_over, entering_live, entering_end}
 use Rattle.places.proofs.enter_slots.Goals as goal
 
@@ -11,7 +15,9 @@ shape_of-places-then-status c = c.loop-slot.invariant.long
 -- what is entered stands before the ranges: an edit is refused for that
 pub loop-slot-preserved : goal.loop-slot-preserved
 loop-slot-preserved c =
-    entering_live _ _ _ _ _ _ c.loop-slot.invariant c.loop-slot-test.true c.if-status-ne-WRITTEN.false _ c.word-block.ensures.0
+    let at = c.args.from.0 + c.loop-slot.slot * 256 in
+    let e : c.from_le_bytes-block.result ≡ get_or c.args.image.now (at + 2) 0 + 256 * get_or c.args.image.now (at + 3) 0 = omega (arith, c.from_le_bytes-block.ensures) in
+    entering_live _ _ _ _ _ _ c.loop-slot.invariant c.loop-slot-test.true c.if-status-ne-WRITTEN.false _ e
 
 pub returns-then-status : goal.returns-then-status
 returns-then-status c =

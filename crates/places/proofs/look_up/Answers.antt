@@ -6,7 +6,7 @@ use Rattle.places.proofs.look_up.Goals as goal
 -- what is believed stands before what is not: an edit is refused for that
 pub returns : goal.returns
 returns c =
-    seen_at _ _ _ c.if-at-eq0.false c.if-at-ne0.false c.if-at-slots-eq0.false c.if-image-place.false (omega (arith, c.wide-length.ensures, c.if-length-gt-MOST_CONTENTS.false)) _ c.wide-length.ensures
+    seen_at _ _ _ c.if-at-eq0.false c.if-at-ne0.false c.if-at-slots-eq0.false c.if-image-place.false (omega (arith, c.from-length.ensures, c.if-length-gt-MOST_CONTENTS.false)) _ c.from-length.ensures
 
 pub returns-then-at-eq0 : goal.returns-then-at-eq0
 returns-then-at-eq0 c = seen_absent _ _ _ c.if-at-eq0.true
@@ -28,4 +28,4 @@ returns-then-image-place c = seen_outside _ _ _ c.if-at-eq0.false c.if-at-ne0.fa
 
 pub returns-then-length-gt-MOST_CONTENTS : goal.returns-then-length-gt-MOST_CONTENTS
 returns-then-length-gt-MOST_CONTENTS c =
-    seen_long _ _ _ c.if-at-eq0.false c.if-at-ne0.false c.if-at-slots-eq0.false c.if-image-place.false (omega (arith, c.wide-length.ensures, c.if-length-gt-MOST_CONTENTS.true))
+    seen_long _ _ _ c.if-at-eq0.false c.if-at-ne0.false c.if-at-slots-eq0.false c.if-image-place.false (omega (arith, c.from-length.ensures, c.if-length-gt-MOST_CONTENTS.true))

@@ -7,7 +7,6 @@ use mathlib.Core.List.{List, [], ◌∷◌, flatten}
 use native.Mathlib.Nat.{mod-lt, mul-le-mul_right, suc-mul}
 use native.Mathlib.Omega.{arith}
 use lib.ListN.{length, get_or}
-use lib.Dec.{eqb}
 use borrow.Author.Tests.{eq-eqb, ne_eqb}
 use Rattle.model.specs.Lists.{all, count}
 use Rattle.model.specs.Chip.{Image}
@@ -179,13 +178,3 @@ module _ (N B : ℕ) (s : Image) (first used : ℕ) where
   pub others_end : (turn : ℕ) → used ≤ turn → others turn ≡ 0
   unfolding flatten count
   others_end turn h = rw (rows_end turn h)
-
--- ---- the status of a dead slot
-
-pub marked_dead : (x : ℕ) → x ≡ 0x1F → true ≡ is_marked x
-unfolding is_marked
-marked_dead x e = rw e
-
-pub marked_cut : (x : ℕ) → x ≢ 0x1F → eqb x 0x5F ≡ is_marked x
-unfolding is_marked
-marked_cut x e = rw (ne_eqb x 0x1F e)

@@ -4,7 +4,7 @@ use Rattle.plan.proofs.Laws.Walks.{first_start, first_next, first_stop, first_en
 use Rattle.plan.proofs.compactions.Goals as goal
 
 pub loop-turn-init : goal.loop-turn-init
-loop-turn-init c = let a = c.args in (omega arith, omega (arith, first_start a.segments a.slots a.image.now a.first.0 a.used))
+loop-turn-init c = let a = c.args in (omega arith, omega (arith, first_start a.geometry.segments a.geometry.slots a.image.now a.first.0 a.used))
 
 pub returns-then-not-none_marked : goal.returns-then-not-none_marked
 returns-then-not-none_marked c =
@@ -17,4 +17,4 @@ loop-turn-preserved c =
 pub returns : goal.returns
 returns c =
     let a = c.args in
-    omega (arith, c.loop-turn.invariant.0, c.loop-turn.invariant.1, first_end a.segments a.slots a.image.now a.first.0 a.used c.loop-turn.turn c.loop-turn-test.false)
+    omega (arith, c.loop-turn.invariant.0, c.loop-turn.invariant.1, first_end a.geometry.segments a.geometry.slots a.image.now a.first.0 a.used c.loop-turn.turn c.loop-turn-test.false)

@@ -1,5 +1,5 @@
 -- `plan::count_not_live` counts to 2. The invariant: with the slots from `slot` on the count is whole. Assumes nothing.
-use Prim.Native.Nat.{◌+◌, ◌-◌, ◌*◌, ◌≤◌}
+use Prim.Native.Nat.{◌+◌, ◌*◌, ◌≤◌}
 use mathlib.Core.Path.{◌≡◌}
 use lib.ListN.{length}
 use Rattle.model.specs.Lists.{count}
@@ -8,7 +8,4 @@ use Rattle.plan.proofs.Laws.Walks.{left}
 use Rattle.plan.proofs.count_not_live.Given as goal
 
 abbrev pub invariant-loop-slot : goal.invariant-loop-slot
-invariant-loop-slot l = (l.slot ≤ l.slots) × (l.from + l.slots * 256 ≤ length l.image) × (l.found ≤ 1) × (l.found + count not_live (left l.image l.slots l.from l.slot) ≡ l.earlier + count not_live (spaced l.image 256 l.slots l.from))
-
-abbrev pub decreases-loop-slot : goal.decreases-loop-slot
-decreases-loop-slot l = l.slots - l.slot
+invariant-loop-slot l = (l.slot ≤ l.fn.geometry.slots) × (l.from + l.fn.geometry.slots * 256 ≤ length l.image) × (l.found ≤ 1) × (l.found + count not_live (left l.image l.fn.geometry.slots l.from l.slot) ≡ l.earlier + count not_live (spaced l.image 256 l.fn.geometry.slots l.from))

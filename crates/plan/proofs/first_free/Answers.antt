@@ -5,7 +5,7 @@ use Rattle.plan.proofs.first_free.Goals as goal
 
 pub loop-low-init : goal.loop-low-init
 loop-low-init c =
-    halving_start c.args.segments c.args.slots c.args.number.0 _ c.args.image.now c.requires c.first_slot-from.ensures
+    halving_start c.args.geometry.segments c.args.geometry.slots c.args.number.0 _ c.args.image.now c.requires c.first_slot-from.ensures
 
 pub loop-low-preserved-then-image-from : goal.loop-low-preserved-then-image-from
 loop-low-preserved-then-image-from c =
@@ -18,4 +18,4 @@ loop-low-preserved c =
 pub returns : goal.returns
 returns c =
     let a = c.args in
-    halving_end a.segments a.slots a.number.0 _ _ _ a.image.now c.first_slot-from.ensures c.loop-low.invariant c.loop-low-test.false
+    halving_end a.geometry.segments a.geometry.slots a.number.0 _ _ _ a.image.now c.first_slot-from.ensures c.loop-low.invariant c.loop-low-test.false

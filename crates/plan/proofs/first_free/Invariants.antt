@@ -4,7 +4,7 @@ use Rattle.plan.proofs.Laws.Walks.{Halving}
 use Rattle.plan.proofs.first_free.Given as goal
 
 abbrev pub invariant-loop-low : goal.invariant-loop-low
-invariant-loop-low l = Halving l.image l.slots l.from l.low l.high
+invariant-loop-low l = Halving l.image l.fn.geometry.slots l.from l.low l.high
 
 abbrev pub decreases-loop-low : goal.decreases-loop-low
 decreases-loop-low l = l.high - l.low

@@ -7,12 +7,12 @@ use Rattle.plan.proofs.none_marked.Goals as goal
 
 pub loop-slot-init : goal.loop-slot-init
 loop-slot-init c =
-    (omega arith, row_inside c.args.segments c.args.slots c.args.number.0 _ _ c.requires c.first_slot-from.ensures, marked_start _ _ _)
+    (omega arith, row_inside c.args.geometry.segments c.args.geometry.slots c.args.number.0 _ _ c.requires c.first_slot-from.ensures, marked_start _ _ _)
 
 pub returns-then-is_marked : goal.returns-then-is_marked
 returns-then-is_marked c =
     let a = c.args in
-    sym (marked_stop _ _ _ c.loop-slot.slot c.loop-slot-test.true c.is_marked.ensures c.if-is_marked.true) ∙ c.loop-slot.invariant.2 ∙ ap none_marked (row_read a.segments a.slots a.number.0 _ a.image.now c.first_slot-from.ensures)
+    sym (marked_stop _ _ _ c.loop-slot.slot c.loop-slot-test.true c.is_marked.ensures c.if-is_marked.true) ∙ c.loop-slot.invariant.2 ∙ ap none_marked (row_read a.geometry.segments a.geometry.slots a.number.0 _ a.image.now c.first_slot-from.ensures)
 
 pub loop-slot-preserved : goal.loop-slot-preserved
 loop-slot-preserved c =
@@ -21,4 +21,4 @@ loop-slot-preserved c =
 pub returns : goal.returns
 returns c =
     let a = c.args in
-    sym (marked_end _ _ _ c.loop-slot.slot c.loop-slot-test.false) ∙ c.loop-slot.invariant.2 ∙ ap none_marked (row_read a.segments a.slots a.number.0 _ a.image.now c.first_slot-from.ensures)
+    sym (marked_end _ _ _ c.loop-slot.slot c.loop-slot-test.false) ∙ c.loop-slot.invariant.2 ∙ ap none_marked (row_read a.geometry.segments a.geometry.slots a.number.0 _ a.image.now c.first_slot-from.ensures)

@@ -1,5 +1,5 @@
 -- `plan::none_marked` is the test of the definition. The invariant: the slots from `slot` on give the answer. Assumes nothing.
-use Prim.Native.Nat.{◌+◌, ◌-◌, ◌*◌, ◌≤◌}
+use Prim.Native.Nat.{◌+◌, ◌*◌, ◌≤◌}
 use mathlib.Core.Path.{◌≡◌}
 use lib.ListN.{length}
 use Rattle.plan.specs.Statuses.{spaced, none_marked}
@@ -7,7 +7,4 @@ use Rattle.plan.proofs.Laws.Walks.{left}
 use Rattle.plan.proofs.none_marked.Given as goal
 
 abbrev pub invariant-loop-slot : goal.invariant-loop-slot
-invariant-loop-slot l = (l.slot ≤ l.slots) × (l.from + l.slots * 256 ≤ length l.image) × (none_marked (left l.image l.slots l.from l.slot) ≡ none_marked (spaced l.image 256 l.slots l.from))
-
-abbrev pub decreases-loop-slot : goal.decreases-loop-slot
-decreases-loop-slot l = l.slots - l.slot
+invariant-loop-slot l = (l.slot ≤ l.fn.geometry.slots) × (l.from + l.fn.geometry.slots * 256 ≤ length l.image) × (none_marked (left l.image l.fn.geometry.slots l.from l.slot) ≡ none_marked (spaced l.image 256 l.fn.geometry.slots l.from))

@@ -9,10 +9,10 @@ use Rattle.model.specs.Chip.{Image}
 use Rattle.model.specs.State.{View, place_of, view}
 use Rattle.model.specs.Steps.{on_page, slot_at, write_slot, mark_dead, mark_place, top_number, write_at_top, mark_old}
 use Rattle.model.specs.declared.Performed.{Performed}
-use Rattle.model.specs.declared.SlotPlace.{SlotPlace}
 use Rattle.bridge.specs.Held.{Held, held_of_clean, clean_view}
-use Rattle.find.specs.declared.Found.{Found}
-use Rattle.find.specs.declared.Found.TheVariants.{At, Nothing}
+use Rattle.std.specs.Prelude.{Option, None, Some}
+use Rattle.std.specs.declared.option.Option.{Option}
+use Rattle.find.specs.declared.FoundSlot.{FoundSlot}
 use Rattle.find.proofs.Callers.{Inside, found_inside, FoundAt, found_at, found_nothing}
 use Rattle.flash.specs.Ran.{Ran, shifted}
 use Rattle.flash.proofs.Laws.{◌then◌, ran_length, ran_left, shifted_page}
@@ -28,7 +28,7 @@ use Rattle.bridge.specs.Lengths.{page_length, write_length}
 -- ---- any image
 
 -- once room was made, a free slot and an old one inside the image are all that is left to test
-pub worked_placed : (N B : ℕ) (p : Plan) (total budget : ℕ) (r : Room) (f : Found) (c : List ℕ) {s t : Image} → Sized N B (length s) → Worked N B p total budget r s t
+pub worked_placed : (N B : ℕ) (p : Plan) (total budget : ℕ) (r : Room) (f : Option FoundSlot) (c : List ℕ) {s t : Image} → Sized N B (length s) → Worked N B p total budget r s t
     → r.slot < B → OldInside f (length t) → length c ≤ 248 → Placed N B r f c budget (length t)
 worked_placed N B p total budget r f c z w h o k = record {
   sized = rw (ran_length w.ran) z;
@@ -40,7 +40,7 @@ worked_placed N B p total budget r f c z w h o k = record {
   left = ran_left w.ran;
 }
 
-module _ (N B : ℕ) (r : Room) (f : Found) (b : ℕ) (c : List ℕ) (budget : ℕ) (t : Image) (k : Placed N B r f c budget (length t)) where
+module _ (N B : ℕ) (r : Room) (f : Option FoundSlot) (b : ℕ) (c : List ℕ) (budget : ℕ) (t : Image) (k : Placed N B r f c budget (length t)) where
   abbrev page : ℕ
   page = slot_at N B (r.first.0 + r.used - 1) r.slot
 
@@ -49,8 +49,8 @@ module _ (N B : ℕ) (r : Room) (f : Found) (b : ℕ) (c : List ℕ) (budget : �
   place_inside at e = let z = k.sized in
       omega (arith, z.whole, k.room, suc-mul ((r.first.0 + r.used - 1) % N) (B + 1), mul-le-mul_right (B + 1) (mod-lt (r.first.0 + r.used - 1) {m = N} z.some))
 
-  pub old_inside : (q : SlotPlace) (n : ℕ) → f ≡ At q n → q.0 < length t
-  old_inside q n w = subst (λ (g : Found). OldInside g (length t)) w k.old
+  pub old_inside : (x : FoundSlot) → f ≡ Some x → x.place.0 < length t
+  old_inside x w = subst (λ (g : Option FoundSlot). OldInside g (length t)) w k.old
 
   wrote_length : length (on_page page (write_slot b c)) ≡ 5 + length c
   wrote_length = page_length page (write_slot b c) ∙ write_length b c
@@ -60,7 +60,7 @@ module _ (N B : ℕ) (r : Room) (f : Found) (b : ℕ) (c : List ℕ) (budget : �
     ran_top = in_page at page (write_slot b c) e d B
 
     -- nothing to mark
-    pub wrote_new : {p : Performed} → f ≡ Nothing → Finished budget written r.left (5 + length c) p → Wrote N B r f b c budget p t w
+    pub wrote_new : {p : Performed} → f ≡ None → Finished budget written r.left (5 + length c) p → Wrote N B r f b c budget p t w
     unfolding last_steps_at mark_found
     wrote_new {p} m fin = record {
       left = written;
@@ -69,15 +69,15 @@ module _ (N B : ℕ) (r : Room) (f : Found) (b : ℕ) (c : List ℕ) (budget : �
     }
 
     -- and then the old slot
-    module _ (q : SlotPlace) (n : ℕ) (o : f ≡ At q n) (left : ℕ) {x : Image} (g : OnPageAt q.0 mark_dead written left w x) where
-      mark_length : length (shifted q.0 mark_dead) ≡ 1
+    module _ (y : FoundSlot) (o : f ≡ Some y) (left : ℕ) {x : Image} (g : OnPageAt y.place.0 mark_dead written left w x) where
+      mark_length : length (shifted y.place.0 mark_dead) ≡ 1
       unfolding shifted mark_dead
       mark_length = refl
 
       pub wrote_old : {p : Performed} → Finished budget left r.left (5 + length c + 1) p → Wrote N B r f b c budget p t x
       unfolding last_steps_at mark_found
       wrote_old {p} fin =
-          let l : length (on_page page (write_slot b c) ++ shifted q.0 mark_dead) ≡ 5 + length c + 1 = length-append (on_page page (write_slot b c)) (shifted q.0 mark_dead) ∙ ap₂ ◌+◌ wrote_length mark_length in record {
+          let l : length (on_page page (write_slot b c) ++ shifted y.place.0 mark_dead) ≡ 5 + length c + 1 = length-append (on_page page (write_slot b c)) (shifted y.place.0 mark_dead) ∙ ap₂ ◌+◌ wrote_length mark_length in record {
             left = left;
             ran = rw o (◌then◌ ran_top (g B));
             finished = rw (o, l) fin;
@@ -85,7 +85,7 @@ module _ (N B : ℕ) (r : Room) (f : Found) (b : ℕ) (c : List ℕ) (budget : �
 
 -- ---- a clean image
 
-module _ (N B : ℕ) (r : Room) (f : Found) (b : ℕ) (c : List ℕ) (budget : ℕ) (t : Image) (k : Ready N B r f b c budget t) where
+module _ (N B : ℕ) (r : Room) (f : Option FoundSlot) (b : ℕ) (c : List ℕ) (budget : ℕ) (t : Image) (k : Ready N B r f b c budget t) where
   abbrev v : View
   v = view N B t
 
@@ -105,19 +105,19 @@ module _ (N B : ℕ) (r : Room) (f : Found) (b : ℕ) (c : List ℕ) (budget : �
         left = k.left;
       }
     where
-      inside : (g : Found) → f ≡ g → OldInside g (length t)
-      inside (At q n) w =
+      inside : (g : Option FoundSlot) → f ≡ g → OldInside g (length t)
+      inside (Some x) w =
           let z = sized N B t k.size in
           let i = subst (Inside N B) w (found_inside N B b t z.some r.used r.first.0 k.old) in
           omega (arith, i.0, z.whole)
-      inside Nothing w = tt
+      inside None w = tt
 
-  marks : (g : Found) → f ≡ g → mark_found f ≡ mark_old N B b v
+  marks : (g : Option FoundSlot) → f ≡ g → mark_found f ≡ mark_old N B b v
   unfolding mark_found mark_old mark_place
-  marks (At q n) w =
-      let a : FoundAt N B b v q n = found_at N B b t v h k.first k.used k.old q n w in
+  marks (Some x) w =
+      let a : FoundAt N B b v x.place x.length = found_at N B b t v h k.first k.used k.old x w in
       rw (w, a.held, a.place) (shifted_page (slot_at N B (place_of b v).number (place_of b v).slot) mark_dead)
-  marks Nothing w = rw (w, found_nothing N B b t v h k.first k.used k.old w)
+  marks None w = rw (w, found_nothing N B b t v h k.first k.used k.old w)
 
   -- the steps are those of the definition
   pub last_steps_lem : last_steps_at N B r f b c ≡ last_steps N B b c (view N B t)

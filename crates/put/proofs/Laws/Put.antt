@@ -20,9 +20,10 @@ use Rattle.bridge.specs.Held.{Held, clean_of_held}
 use Rattle.bridge.specs.Requests.{held_below, room_held}
 use Rattle.bridge.specs.Views.Room.{Made, room_made}
 use Rattle.bridge.specs.Views.Requests.{room_numbered, worn_carries}
-use Rattle.find.specs.declared.Found.{Found}
-use Rattle.find.specs.declared.Found.TheVariants.{At, Nothing}
-use Rattle.find.specs.Search.{rows_at, found_in, held_found}
+use Rattle.std.specs.Prelude.{Option, None}
+use Rattle.std.specs.declared.option.Option.{Option}
+use Rattle.find.specs.declared.FoundSlot.{FoundSlot}
+use Rattle.find.specs.Search.{rows_at, slot_found, found_in, held_found}
 use Rattle.flash.specs.Ran.{Ran}
 use Rattle.flash.proofs.Laws.{◌then◌, ran_spent, ran_left, whole_run}
 use Rattle.flash.specs.Pages.{Sized}
@@ -38,7 +39,7 @@ use Rattle.request.proofs.Answered.{carried, carried_outcome}
 use Rattle.bridge.specs.Refusals.{put_accepted}
 use Rattle.room.proofs.Laws.{row_full, top_length, plan_held, plan_clean, has_room_lem}
 
-module _ (N B : ℕ) (p : Plan) (total : ℕ) (f : Found) (b : ℕ) (c : List ℕ) (s : Image) (a : Accepted N B p total f b c s) (budget : ℕ) where
+module _ (N B : ℕ) (p : Plan) (total : ℕ) (f : Option FoundSlot) (b : ℕ) (c : List ℕ) (s : Image) (a : Accepted N B p total f b c s) (budget : ℕ) where
   abbrev k : Planned N B p s
   k = a.put.plan
 
@@ -126,10 +127,10 @@ module _ (N B : ℕ) (p : Plan) (total : ℕ) (f : Found) (b : ℕ) (c : List �
     -- what a search finds once room was made, by the view
     pub room_found : found_in N B r.first.0 (rows_at N B t r.used r.first.0) b
         ≡ cond (holds b (entries_in (room_for N B (view N B s)).result))
-        (At (record { 0 = slot_at N B (place_of b (room_for N B (view N B s)).result).number (place_of b (room_for N B (view N B s)).result).slot * 256 }) (length (contents_found (lookup b (entries_in (room_for N B (view N B s)).result))))) Nothing
+        (slot_found (slot_at N B (place_of b (room_for N B (view N B s)).result).number (place_of b (room_for N B (view N B s)).result).slot * 256) (length (contents_found (lookup b (entries_in (room_for N B (view N B s)).result))))) None
     room_found = rw (d.first, d.used) (held_found N B t room.result b room_made_held)
 
-    pub room_ready : (o : Found) → o ≡ found_in N B r.first.0 (rows_at N B t r.used r.first.0) b → Ready N B r o b c budget t
+    pub room_ready : (o : Option FoundSlot) → o ≡ found_in N B r.first.0 (rows_at N B t r.used r.first.0) b → Ready N B r o b c budget t
     room_ready o e =
         let h = room_made_held in
         let view_is : room.result ≡ view N B t = sym h.view in record {
@@ -144,7 +145,7 @@ module _ (N B : ℕ) (p : Plan) (total : ℕ) (f : Found) (b : ℕ) (c : List �
           left = ran_left d.ran;
         }
 
-    pub put_done : (o : Found) → o ≡ found_in N B r.first.0 (rows_at N B t r.used r.first.0) b → {u : Image} {q : Performed} → Wrote N B r o b c budget q t u → performed q u ≡ outcome_of N B s budget (put b c)
+    pub put_done : (o : Option FoundSlot) → o ≡ found_in N B r.first.0 (rows_at N B t r.used r.first.0) b → {u : Image} {q : Performed} → Wrote N B r o b c budget q t u → performed q u ≡ outcome_of N B s budget (put b c)
     put_done o e {u} {q} w =
         let ys = last_steps N B b c room.result in
         let same : last_steps_at N B r o b c ≡ ys = last_steps_lem N B r o b c budget t (room_ready o e) ∙ ap (last_steps N B b c) room_made_held.view in

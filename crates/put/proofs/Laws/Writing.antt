@@ -15,7 +15,9 @@ use Rattle.model.specs.Answers.{code_of, put, is_full}
 use Rattle.model.specs.declared.Answer.{Answer}
 use Rattle.model.specs.declared.Answer.TheVariants.{Done, Full, Worn, FormerVersion}
 use Rattle.bridge.specs.Accepted.{refusal}
-use Rattle.find.specs.declared.Found.{Found}
+use Rattle.std.specs.Prelude.{Option}
+use Rattle.std.specs.declared.option.Option.{Option}
+use Rattle.find.specs.declared.FoundSlot.{FoundSlot}
 use Rattle.tally.specs.declared.Tally.{Tally}
 use Rattle.tally.specs.Seen.{tally_seen}
 use Rattle.room.specs.declared.Plan.{Plan}
@@ -43,7 +45,7 @@ module _ (N B : ℕ) (p : Plan) (live b : ℕ) (c : List ℕ) (s : Image) (u : P
   unfolding code_of
   former_refuses o = (put_former N B s k.size b c u.number u.taken k.state (sym (former_same N B p s k t seen) ∙ o), refl)
 
-  module _ (l : live ≡ length (entries_in (view N B s))) (o : t.former ≡ false) (f : Found) (e : f ≡ found_before N B p live s b) where
+  module _ (l : live ≡ length (entries_in (view N B s))) (o : t.former ≡ false) (f : Option FoundSlot) (e : f ≡ found_before N B p live s b) where
     second : is_former (view N B s).version ≡ false
     second = sym (former_same N B p s k t seen) ∙ o
 

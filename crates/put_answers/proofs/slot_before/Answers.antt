@@ -9,4 +9,4 @@ pub returns-then-live-capacity : goal.returns-then-live-capacity
 unfolding found_before
 returns-then-live-capacity c =
     let a = c.args in
-    rw (le-ltb _ _ c.if-slots-plan.true, lt-leb (capacity a.segments a.slots) a.live (omega arith))
+    rw (le-ltb _ _ c.if-geometry-plan.true, lt-leb (capacity a.geometry.segments a.geometry.slots) a.live (omega arith))

@@ -23,7 +23,7 @@ count_slots-requires c =
     (omega (arith, c.requires), omega (arith, c.requires), omega (arith, c.requires))
 
 pub returns-in_default : goal.returns-in_default
-returns-in_default c = (segment_unused c.args.segments c.args.slots c.args.index c.args.image.now c.requires.1 _ c.see_header-seen.ensures c.args.census c.in_default.is, omega arith)
+returns-in_default c = (segment_unused c.args.segments c.args.slots c.args.index c.args.image.now c.requires.1 _ c.see_header.ensures c.args.census c.in_default.is, omega arith)
 
 pub returns : goal.returns
-returns c = (c.count_slots.ensures.0 ∙ segment_used c.args.segments c.args.slots c.args.index c.args.image.now c.requires.1 _ c.see_header-seen.ensures c.args.census _ _ _ c.in-InUse.is, omega (arith, c.requires, c.count_slots.ensures.1))
+returns c = (c.count_slots.ensures.0 ∙ segment_used c.args.segments c.args.slots c.args.index c.args.image.now c.requires.1 _ c.see_header.ensures c.args.census _ c.in-Some.is, omega (arith, c.requires, c.count_slots.ensures.1))

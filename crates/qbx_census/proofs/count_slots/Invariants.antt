@@ -8,6 +8,3 @@ use Rattle.qbx_census.proofs.count_slots.Given as goal
 abbrev pub invariant-loop-i : goal.invariant-loop-i
 invariant-loop-i l =
     (count_kinds l.sum (kinds_at l.image (l.at + l.i * 256) (l.slots - l.i)) ≡ count_kinds l.initial.sum (kinds_at l.image l.at l.slots)) × (l.i ≤ l.slots) × (total l.sum ≤ total l.initial.sum + l.i)
-
-abbrev pub decreases-loop-i : goal.decreases-loop-i
-decreases-loop-i l = l.slots - l.i

@@ -1,5 +1,5 @@
 -- `qbx_census::take_census`. The invariant: what is left of the segments, behind what was counted, gives the whole. Assumes nothing.
-use Prim.Native.Nat.{◌-◌, ◌*◌, ◌≤◌}
+use Prim.Native.Nat.{◌*◌, ◌≤◌}
 use mathlib.Core.Path.{◌≡◌}
 use lib.ListN.{drop}
 use Rattle.model.specs.State.{segments_of}
@@ -10,6 +10,3 @@ abbrev pub invariant-loop-i : goal.invariant-loop-i
 invariant-loop-i l =
     let m = set_aside l.aside (segments_of l.segments l.slots l.image) in
     (l.i ≤ l.segments) × (total l.census ≤ l.i * 256) × (count_segments l.census (drop l.i m) ≡ census_of m)
-
-abbrev pub decreases-loop-i : goal.decreases-loop-i
-decreases-loop-i l = l.segments - l.i

@@ -1,19 +1,20 @@
--- One byte more of a line, and one part more.
-use Prim.Native.Nat.{ℕ, suc, ◌+◌, ◌<◌}
+-- A part more of a line.
+use Prim.Native.Nat.{ℕ, ◌+◌, ◌≤◌}
 use mathlib.Core.Path.{◌≡◌, sym, ◌∙◌, ap, subst}
 use mathlib.Core.List.{List, [], ◌++◌, append-nil, append_assoc}
-use native.Mathlib.Numerals.{add-one}
 use native.Mathlib.Omega.{arith}
-use lib.ListN.{length, take, get_or, set, length-append}
-use lib.Seq.{take-suc, take-suc-set}
+use lib.ListN.{length, take, length-append}
+use lib.Seq.{length-take-le, take-append-add, take-append_seam}
 use Rattle.qbx_lines.specs.declared.Line.{Line}
 use Rattle.qbx_lines.specs.Lines.{said, Added}
 
-pub add_turn : (text start bytes : List ℕ) (at i : ℕ) → i < length text → at + i < length bytes → take (at + i) bytes ≡ take at start ++ take i text
-    → take (at + (i + 1)) (set bytes (at + i) (get_or text i 0)) ≡ take at start ++ take (i + 1) text
-add_turn text start bytes at i h l e =
-    let s : at + (i + 1) ≡ suc (at + i) = omega arith in
-    rw (s, take-suc-set bytes (at + i) (get_or text i 0) l, e, add-one, take-suc text i 0 h, append_assoc)
+-- some bytes in place of those from `at` on
+pub put_behind : (start text : List ℕ) (at end n : ℕ) (rest : List ℕ) → at ≤ length start → end ≡ at + length text → n ≡ end
+    → take n (take at start ++ (text ++ rest)) ≡ take at start ++ text
+put_behind start text at end n rest h e d =
+    let a : length (take at start) ≡ at = length-take-le at start h in
+    let l : length (take at start) + length text ≡ n = omega arith in
+    ap (λ (k : ℕ). take k (take at start ++ (text ++ rest))) (sym l) ∙ take-append-add (take at start) (text ++ rest) (length text) ∙ ap (λ (t : List ℕ). take at start ++ t) (take-append_seam text rest)
 
 -- what a line says with a part more, from what it said
 pub more : {l r : Line} {x t : List ℕ} → Added l x r → said l ≡ t → said r ≡ t ++ x

@@ -6,7 +6,4 @@ use Rattle.qbx_script_words.specs.Script.{word_at}
 use Rattle.qbx_script_words.proofs.word.Given as goal
 
 abbrev pub invariant-loop-i : goal.invariant-loop-i
-invariant-loop-i l = (l.at ≤ length l.line) × (l.i ≤ l.k) × (word_at (l.k - l.i) (drop l.at l.line) ≡ word_at l.k l.line)
-
-abbrev pub decreases-loop-i : goal.decreases-loop-i
-decreases-loop-i l = l.k - l.i
+invariant-loop-i l = (l.at ≤ length l.line) × (l._i ≤ l.k) × (word_at (l.k - l._i) (drop l.at l.line) ≡ word_at l.k l.line)

@@ -9,7 +9,7 @@ pub slice_bounds-read_shares-end : goal.slice_bounds-read_shares-end
 slice_bounds-read_shares-end c = sym (length-take-le _ _ (omega arith))
 
 pub slice_bounds-shares-end : goal.slice_bounds-shares-end
-slice_bounds-shares-end c = omega (arith, listed_within 123 _ _ (sym c.in-Listed.is ∙ c.read_shares-listing.ensures.0))
+slice_bounds-shares-end c = omega (arith, listed_within 123 _ _ (sym c.in-Ok.is ∙ c.read_shares-listing.ensures.0))
 
 pub slice_bounds-work-end : goal.slice_bounds-work-end
-slice_bounds-work-end c = sym (length-take-le _ _ (omega (arith, listed_within 123 _ _ (sym c.in-Listed.is ∙ c.read_shares-listing.ensures.0))))
+slice_bounds-work-end c = sym (length-take-le _ _ (omega (arith, listed_within 123 _ _ (sym c.in-Ok.is ∙ c.read_shares-listing.ensures.0))))

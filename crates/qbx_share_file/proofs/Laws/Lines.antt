@@ -10,12 +10,10 @@ use lib.Seq.{take-length, drop-drop}
 use lib.Dec.{eqb}
 use borrow.Author.Tests.{ne_eqb}
 use Rattle.byte_search.specs.Bytes.{index_of, slice}
-use Rattle.qbx_share_file.specs.declared.Listing.TheVariants.{Listed, Wrong}
-use Rattle.qbx_share_file.specs.declared.LineRead.{LineRead}
-use Rattle.qbx_share_file.specs.declared.LineRead.TheVariants.{Blank, Share, Odd}
-use Rattle.qbx_share_file.specs.ShareFile.{parts, filled, is_line_end, words_of, line_of, Said, on_line, lines_from, said_in, listing, over}
-use Rattle.qbx_share_file.specs.AnyFile.{LineSaid, on_any, any_from, file_says, shares_in, share_line}
-use Rattle.qbx_share_file.specs.Steps.{reach, behind, Kept, numbers_in, is_right}
+use Rattle.std.specs.Prelude.{Some, None, Result, Ok, Err}
+use Rattle.qbx_share_file.specs.declared.lines.WrongLine.{WrongLine}
+use Rattle.qbx_share_file.specs.AnyFile.{parts, is_line_end, LineSaid, odd, Said, on_any, any_from, file_says, listing, over}
+use Rattle.qbx_share_file.specs.Steps.{reach, behind, Kept}
 use Rattle.qbx_share_file.proofs.Laws.Parts.{others, parts_first}
 use Rattle.qbx_share_file.proofs.Laws.Kept.{behind_none}
 
@@ -32,7 +30,7 @@ unfolding index_of reach
 index_reach [] = refl
 index_reach (b ∷ s) = index_by b s (eqb b 10) refl (index_reach s)
 
-module _ (f : List ℕ → LineSaid) (quiet : f [] ≡ record { numbers = []; right = true }) where
+module _ {T : Type 0} (f : List ℕ → LineSaid T) (quiet : f [] ≡ Ok None) where
   -- behind the last line nothing is said, so it may or may not have an end
   others_say : (k : ℕ) (s : List ℕ) → any_from f k (others is_line_end s) ≡ any_from f k (parts is_line_end (drop 1 s))
   unfolding any_from on_any parts others
@@ -46,11 +44,11 @@ module _ (f : List ℕ → LineSaid) (quiet : f [] ≡ record { numbers = []; ri
 -- ---- what is left to be read
 
 -- what the lines from `at` on say, of which the first is number `k`
-unfoldable pub said_from : (List ℕ → LineSaid) → List ℕ → ℕ → ℕ → Said
+unfoldable pub said_from : {T : Type 0} → (List ℕ → LineSaid T) → List ℕ → ℕ → ℕ → Said T
 said_from f text at k = any_from f k (parts is_line_end (drop at text))
 
 -- `count` numbers are listed, and what is left to be read gives what the whole text does
-pub record Left (f : List ℕ → LineSaid) (text lent : List ℕ) (at k count : ℕ) (list : List ℕ) : Type 0 where
+pub record Left {T : Type 0} (f : List ℕ → LineSaid T) (text : List ℕ) (lent : List T) (at k count : ℕ) (list : List T) : Type 0 where
   pub counted : k ≤ at + 1
   pub begun : 0 < k
   pub within : count ≤ length list
@@ -59,21 +57,13 @@ pub record Left (f : List ℕ → LineSaid) (text lent : List ℕ) (at k count :
   pub counts : min (count + length (said_from f text at k).numbers) (length lent) ≡ min (length (file_says f text).numbers) (length lent)
   pub wrong : (said_from f text at k).wrong ≡ (file_says f text).wrong
 
-pub left_all : (f : List ℕ → LineSaid) (text lent : List ℕ) → Left f text lent 0 1 0 lent
+pub left_all : {T : Type 0} (f : List ℕ → LineSaid T) (text : List ℕ) (lent : List T) → Left f text lent 0 1 0 lent
 unfolding said_from file_says behind
 left_all f text lent = record { counted = omega arith; begun = omega arith; within = omega arith; long = refl; lists = refl; counts = omega arith; wrong = refl }
 
-odd_says : (k : ℕ) (v : LineSaid) (y : Said) → v.right ≡ false → ((on_any k v y).numbers ≡ []) × ((on_any k v y).wrong ≡ k)
-unfolding on_any
-odd_says k v y e = rw e (refl, refl)
-
-right_says : (k : ℕ) (v : LineSaid) (y : Said) → v.right ≡ true → ((on_any k v y).numbers ≡ v.numbers ++ y.numbers) × ((on_any k v y).wrong ≡ y.wrong)
-unfolding on_any
-right_says k v y e = rw e (refl, refl)
-
-module _ (f : List ℕ → LineSaid) (quiet : f [] ≡ record { numbers = []; right = true }) (text lent : List ℕ) (at k count : ℕ) (list : List ℕ) (x : Left f text lent at k count list) where
+module _ {T : Type 0} (f : List ℕ → LineSaid T) (quiet : f [] ≡ Ok None) (text : List ℕ) (lent : List T) (at k count : ℕ) (list : List T) (x : Left f text lent at k count list) where
   -- nothing is left
-  pub left_none : length text ≤ at → (Listed count ≡ listing (length lent) (file_says f text)) × (list ≡ over (file_says f text).numbers lent)
+  pub left_none : length text ≤ at → (Ok count ≡ listing (length lent) (file_says f text)) × (list ≡ over (file_says f text).numbers lent)
   unfolding said_from any_from on_any parts listing
   left_none h =
       let e = drop_of_length-le text h in
@@ -83,77 +73,72 @@ module _ (f : List ℕ → LineSaid) (quiet : f [] ≡ record { numbers = []; ri
       let m : min (length (file_says f text).numbers) (length lent) ≡ count = omega (arith, x.within, x.long) in
       (rw (sym w, m), sym (behind_none count list) ∙ l)
 
-  module _ (end : ℕ) (line : LineSaid)
+  module _ (end : ℕ) (line : LineSaid T)
       (found : end ≡ at + index_of 10 (slice at (length text) text))
       (read : line ≡ f (take (end - at) (drop at text))) where
+    -- what the lines behind the next say
+    rest : Said T
+    rest = said_from f text (end + 1) (k + 1)
+
     -- the next line, and the rest
-    split : said_from f text at k ≡ on_any k line (said_from f text (end + 1) (k + 1))
-    unfolding said_from slice
+    split : said_from f text at k ≡ on_any k line rest
+    unfolding said_from slice rest
     split =
         let g : end ≡ at + reach is_line_end (drop at text) = found ∙ ap (λ (l : List ℕ). at + index_of 10 (drop at l)) (take-length text) ∙ ap (λ (n : ℕ). at + n) (index_reach (drop at text)) in
         let r : reach is_line_end (drop at text) ≡ end - at = omega arith in
         let d : at + (end - at + 1) ≡ end + 1 = omega arith in
-        rw (next_line f quiet k (drop at text), r, drop-drop (end - at + 1) at text, d, read)
+        rw (next_line f quiet k (drop at text), r, drop-drop (end - at + 1) at text, d) (ap (λ (v : LineSaid T). on_any k v rest) (sym read))
 
-    pub left_wrong : line.right ≡ false → (Wrong k ≡ listing (length lent) (file_says f text)) × (list ≡ over (file_says f text).numbers lent)
-    unfolding listing
+    pub left_wrong : line ≡ Err odd → (Err (record { 0 = k }) ≡ listing (length lent) (file_says f text)) × (list ≡ over (file_says f text).numbers lent)
+    unfolding listing on_any
     left_wrong e =
-        let o = odd_says k line (said_from f text (end + 1) (k + 1)) e in
-        let n : (said_from f text at k).numbers ≡ [] = ap (λ (s : Said). s.numbers) split ∙ o.0 in
-        let w : (file_says f text).wrong ≡ k = sym x.wrong ∙ ap (λ (s : Said). s.wrong) split ∙ o.1 in
+        let o : said_from f text at k ≡ record { numbers = []; wrong = k } = split ∙ ap (λ (v : LineSaid T). on_any k v rest) e in
+        let w : (file_says f text).wrong ≡ k = sym x.wrong ∙ ap (λ (s : Said T). s.wrong) o in
         let z : eqb k 0 ≡ false = ne_eqb k 0 (λ z. omega (arith, x.begun)) in
-        (rw (w, z), sym (behind_none count list) ∙ ap (λ (ns : List ℕ). behind count ns list) (sym n) ∙ x.lists)
+        (rw (w, z), sym (behind_none count list) ∙ ap (λ (s : Said T). behind count s.numbers list) (sym o) ∙ x.lists)
 
-    pub left_next : (next : ℕ) (after : List ℕ) → line.right ≡ true → Kept line.numbers count list next after → Left f text lent (end + 1) (k + 1) next after
-    left_next next after e y =
-        let rest = said_from f text (end + 1) (k + 1) in
-        let r = right_says k line rest e in
-        let n : (said_from f text at k).numbers ≡ line.numbers ++ rest.numbers = ap (λ (s : Said). s.numbers) split ∙ r.0 in
-        let l : length (said_from f text at k).numbers ≡ length line.numbers + length rest.numbers = ap length n ∙ length-append line.numbers rest.numbers in
+    pub left_blank : line ≡ Ok None → Left f text lent (end + 1) (k + 1) count list
+    unfolding on_any said_from rest
+    left_blank e =
+        let o : said_from f text at k ≡ rest = split ∙ ap (λ (v : LineSaid T). on_any k v rest) e in
+        record {
+          counted = omega (arith, x.counted, found);
+          begun = omega arith;
+          within = x.within;
+          long = x.long;
+          lists = ap (λ (s : Said T). behind count s.numbers list) (sym o) ∙ x.lists;
+          counts = ap (λ (s : Said T). min (count + length s.numbers) (length lent)) (sym o) ∙ x.counts;
+          wrong = ap (λ (s : Said T). s.wrong) (sym o) ∙ x.wrong;
+        }
+
+    pub left_next : (ns : List T) (next : ℕ) (after : List T) → line ≡ Ok (Some ns) → Kept ns count list next after → Left f text lent (end + 1) (k + 1) next after
+    unfolding on_any said_from rest
+    left_next ns next after e y =
+        let o : said_from f text at k ≡ record { numbers = ns ++ rest.numbers; wrong = rest.wrong } = split ∙ ap (λ (v : LineSaid T). on_any k v rest) e in
+        let n : (said_from f text at k).numbers ≡ ns ++ rest.numbers = ap (λ (s : Said T). s.numbers) o in
+        let l : length (said_from f text at k).numbers ≡ length ns + length rest.numbers = ap length n ∙ length-append ns rest.numbers in
         record {
           counted = omega (arith, x.counted, found);
           begun = omega arith;
           within = omega (arith, y.within, y.long);
           long = y.long ∙ x.long;
-          lists = sym (y.puts rest.numbers) ∙ ap (λ (ns : List ℕ). behind count ns list) (sym n) ∙ x.lists;
+          lists = sym (y.puts rest.numbers) ∙ ap (λ (ms : List T). behind count ms list) (sym n) ∙ x.lists;
           counts = omega (arith, y.counts (length rest.numbers), x.counts, x.long, l);
-          wrong = sym r.1 ∙ ap (λ (s : Said). s.wrong) (sym split) ∙ x.wrong;
+          wrong = ap (λ (s : Said T). s.wrong) (sym o) ∙ x.wrong;
         }
-
--- a line of a file of shares with nothing on it
-pub share_quiet : share_line [] ≡ record { numbers = []; right = true }
-unfolding share_line line_of words_of filled parts numbers_in is_right
-share_quiet = refl
-
--- what is said of each line of a file of shares is what that line says
-line_any : (k : ℕ) (v : LineRead) (x : Said) → on_line k v x ≡ on_any k (shares_in v) x
-unfolding on_line on_any numbers_in is_right
-line_any k Blank x = refl
-line_any k (Share f l q) x = refl
-line_any k Odd x = refl
-
-lines_any : (k : ℕ) (ls : List (List ℕ)) → lines_from k ls ≡ any_from share_line k ls
-unfolding lines_from any_from share_line
-lines_any k [] = refl
-lines_any k (l ∷ ls) = line_any k (line_of (words_of l)) (lines_from (suc k) ls) ∙ ap (on_any k (shares_in (line_of (words_of l)))) (lines_any (suc k) ls)
-
-pub said_any : (text : List ℕ) → said_in text ≡ file_says share_line text
-unfolding said_in file_says
-said_any text = lines_any 1 (parts is_line_end text)
 
 -- ---- for who reads a file
 
-within_by : (room n : ℕ) (y : Said) (t : Bool) → eqb y.wrong 0 ≡ t → Listed n ≡ listing room y → n ≤ room
+within_by : {T : Type 0} (room n : ℕ) (y : Said T) (t : Bool) → eqb y.wrong 0 ≡ t → Ok n ≡ listing room y → n ≤ room
 unfolding listing
 within_by room n y true h e =
-    let f : Listed n ≡ Listed (min (length y.numbers) room) = rw h at e in
+    let f : ◌≡◌ {A = Result ℕ WrongLine} (Ok n) (Ok (min (length y.numbers) room)) = rw h at e in
     let g : n ≡ min (length y.numbers) room = cc in
     omega arith
 within_by room n y false h e =
-    let f : Listed n ≡ Wrong y.wrong = rw h at e in
-    let z : ◌≡◌ {A = ℕ} 0 1 = cc in
-    absurd (omega arith)
+    let f : ◌≡◌ {A = Result ℕ WrongLine} (Ok n) (Err (record { 0 = y.wrong })) = rw h at e in
+    absurd cc
 
 -- what is listed is within the list
-pub listed_within : (room n : ℕ) (y : Said) → Listed n ≡ listing room y → n ≤ room
+pub listed_within : {T : Type 0} (room n : ℕ) (y : Said T) → Ok n ≡ listing room y → n ≤ room
 listed_within room n y e = within_by room n y (eqb y.wrong 0) refl e

@@ -6,7 +6,8 @@ use mathlib.Core.List.{List, [], ◌∷◌}
 use native.Mathlib.Numerals.{add-one}
 use lib.ListN.{length, take, drop, get_or, drop_of_length-le}
 use lib.Seq.{drop-cons}
-use Rattle.qbx_share_file.specs.ShareFile.{before, parts, filled}
+use Rattle.qbx_share_file.specs.AnyFile.{before, parts}
+use Rattle.qbx_share_file.specs.ShareFile.{filled}
 use Rattle.qbx_share_file.specs.Steps.{reach}
 
 -- ---- how far a part reaches

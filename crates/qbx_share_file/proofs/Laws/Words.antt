@@ -7,11 +7,10 @@ use native.Mathlib.Numerals.{add-one}
 use native.Mathlib.Omega.{arith}
 use lib.ListN.{length, take, drop, get_or, drop_of_length-le}
 use lib.Seq.{take-nil, drop-cons, drop-drop}
-use Rattle.qbx_numbers.specs.Number.{number_of, fits32, number32_of}
-use Rattle.qbx_numbers.specs.declared.Parsed32.{Parsed32}
-use Rattle.qbx_numbers.specs.declared.Parsed32.TheVariants.{Number32, NoNumber32}
-use Rattle.qbx_share_file.specs.declared.LineRead.TheVariants.{Blank, Odd}
-use Rattle.qbx_share_file.specs.ShareFile.{parts, filled, is_blank, words_of, share_of, line_of}
+use Rattle.std.specs.Prelude.{Option, Some, None, Ok, Err}
+use Rattle.qbx_numbers.specs.Number.{number_of, fits, number32_of}
+use Rattle.qbx_share_file.specs.AnyFile.{parts, odd}
+use Rattle.qbx_share_file.specs.ShareFile.{filled, is_blank, words_of, share_of, line_of}
 use Rattle.qbx_share_file.specs.Steps.{reach}
 use Rattle.qbx_share_file.proofs.Laws.Parts.{parts_first, filled_others}
 
@@ -71,16 +70,16 @@ none_behind ((b ∷ p) ∷ ps) (suc k) e = omega (arith, none_behind ps k e)
 
 -- ---- what words say
 
-no_word : (ws : List (List ℕ)) → length ws ≤ 0 → Blank ≡ line_of ws
+no_word : (ws : List (List ℕ)) → length ws ≤ 0 → Ok None ≡ line_of ws
 unfolding line_of
 no_word [] h = refl
 no_word (x ∷ ws) h = absurd (omega arith)
 
-pub blank_line : (line : List ℕ) → length (get_or (words_of line) 0 []) ≡ 0 → Blank ≡ line_of (words_of line)
+pub blank_line : (line : List ℕ) → length (get_or (words_of line) 0 []) ≡ 0 → Ok None ≡ line_of (words_of line)
 unfolding words_of
 blank_line line e = no_word (filled (parts is_blank line)) (none_behind (parts is_blank line) 0 e)
 
-pub long_line : (ws : List (List ℕ)) → 0 < length (get_or ws 3 []) → Odd ≡ line_of ws
+pub long_line : (ws : List (List ℕ)) → 0 < length (get_or ws 3 []) → Err odd ≡ line_of ws
 unfolding line_of
 long_line [] h = absurd (omega arith)
 long_line (x ∷ []) h = absurd (omega arith)
@@ -88,27 +87,27 @@ long_line (x ∷ y ∷ []) h = absurd (omega arith)
 long_line (x ∷ y ∷ z ∷ []) h = absurd (omega arith)
 long_line (x ∷ y ∷ z ∷ w ∷ ws) h = refl
 
-no_second : (p r : Parsed32) → share_of p NoNumber32 r ≡ Odd
+no_second : (p r : Option ℕ) → share_of p None r ≡ Err odd
 unfolding share_of
-no_second (Number32 n) r = refl
-no_second NoNumber32 r = refl
+no_second (Some n) r = refl
+no_second None r = refl
 
-no_third : (p q : Parsed32) → share_of p q NoNumber32 ≡ Odd
+no_third : (p q : Option ℕ) → share_of p q None ≡ Err odd
 unfolding share_of
-no_third (Number32 n) (Number32 m) = refl
-no_third (Number32 n) NoNumber32 = refl
-no_third NoNumber32 q = refl
+no_third (Some n) (Some m) = refl
+no_third (Some n) None = refl
+no_third None q = refl
 
 up_to_three : (ws : List (List ℕ)) → (length (get_or ws 0 []) ≡ 0 → ⊥) → length ws ≤ 3 → share_of (number32_of (get_or ws 0 [])) (number32_of (get_or ws 1 [])) (number32_of (get_or ws 2 [])) ≡ line_of ws
-unfolding line_of number32_of number_of fits32
+unfolding line_of number32_of number_of fits
 up_to_three [] n h = absurd (n refl)
-up_to_three (x ∷ []) n h = no_second (number32_of x) NoNumber32
+up_to_three (x ∷ []) n h = no_second (number32_of x) None
 up_to_three (x ∷ y ∷ []) n h = no_third (number32_of x) (number32_of y)
 up_to_three (x ∷ y ∷ z ∷ []) n h = refl
 up_to_three (x ∷ y ∷ z ∷ w ∷ ws) n h = absurd (omega arith)
 
 -- a word and not four
-pub three_words : (line : List ℕ) (p q r : Parsed32) → (length (get_or (words_of line) 0 []) ≡ 0 → ⊥) → length (get_or (words_of line) 3 []) ≤ 0
+pub three_words : (line : List ℕ) (p q r : Option ℕ) → (length (get_or (words_of line) 0 []) ≡ 0 → ⊥) → length (get_or (words_of line) 3 []) ≤ 0
     → number32_of (get_or (words_of line) 0 []) ≡ p → number32_of (get_or (words_of line) 1 []) ≡ q → number32_of (get_or (words_of line) 2 []) ≡ r → share_of p q r ≡ line_of (words_of line)
 unfolding words_of
 three_words line p q r n e a b c = rw (sym a, sym b, sym c) (up_to_three (filled (parts is_blank line)) n (none_behind (parts is_blank line) 3 (omega arith)))

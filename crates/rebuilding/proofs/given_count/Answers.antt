@@ -8,29 +8,26 @@ use Rattle.model.specs.Lists.{count}
 use Rattle.index.specs.Tables.{most_pages}
 use Rattle.rebuilding.proofs.Laws.{count_none, count_more, count_few}
 use Rattle.rebuilding.proofs.given_count.Goals as goal
-use Rattle.rebuilding.proofs.given_count.Goals.{then-places-block-ne0, else-places-block-ne0}
+use Rattle.rebuilding.proofs.given_count.Goals.{then-place-ne0, else-place-ne0}
 
-pub loop-block-init : goal.loop-block-init
-loop-block-init c = (sym (count_none c.args.places.now), omega arith)
-
-pub bounds-places-block : goal.bounds-places-block
-bounds-places-block c = omega (arith, c.loop-block-test.true, c.requires)
+pub loop-place-init : goal.loop-place-init
+loop-place-init c = sym (count_none c.args.places.now)
 
 pub overflow_add-given : goal.overflow_add-given
-overflow_add-given c = let l = c.loop-block in omega (arith, l.invariant.0, count_few c.args.places.now l.block, c.loop-block-test.true)
+overflow_add-given c = let l = c.loop-place in omega (arith, l.invariant, count_few c.args.places.now l.place-index, c.loop-place-test.true)
 
 pub overflow_cast-result : goal.overflow_cast-result
-overflow_cast-result c = let l = c.loop-block in omega (arith, l.invariant.0, l.invariant.1, count_few c.args.places.now l.block)
+overflow_cast-result c = let l = c.loop-place in omega (arith, l.invariant, count_few c.args.places.now l.place-index)
 
 pub returns : goal.returns
 returns c =
-    let l = c.loop-block in
-    let e : l.block ≡ most_pages = omega (arith, l.invariant.1, c.loop-block-test.false) in
-    l.invariant.0 ∙ (ap (λ k. count (λ p. ltb 0 p) (take k c.args.places.now)) e ∙ ap (count (λ p. ltb 0 p)) (take_all most_pages c.args.places.now (omega (arith, c.requires))))
+    let l = c.loop-place in
+    let e : l.place-index ≡ most_pages = omega (arith, c.loop-place-test.false) in
+    l.invariant ∙ (ap (λ k. count (λ p. ltb 0 p) (take k c.args.places.now)) e ∙ ap (count (λ p. ltb 0 p)) (take_all most_pages c.args.places.now (omega (arith, c.requires))))
 
-pub loop-block-preserved : goal.loop-block-preserved
-loop-block-preserved c =
-    let l = c.loop-block in
-    let t = c.loop-block-test.true in
-    let m = count_more c.args.places.now l.block l.given (omega (arith, c.requires, t)) l.invariant.0 in
-    (elim c.if-places-block-ne0.branch [ then-places-block-ne0 w ↦ w.given-is ∙ m.0 w.if-places-block-ne0.true | else-places-block-ne0 w ↦ w.given-is ∙ m.1 (omega (arith, w.if-places-block-ne0.false)) ], omega arith)
+pub loop-place-preserved : goal.loop-place-preserved
+loop-place-preserved c =
+    let l = c.loop-place in
+    let t = c.loop-place-test.true in
+    let m = count_more c.args.places.now l.place-index l.given (omega (arith, c.requires, t)) l.invariant in
+    elim c.if-place-ne0.branch [ then-place-ne0 w ↦ w.given-is ∙ m.0 w.if-place-ne0.true | else-place-ne0 w ↦ w.given-is ∙ m.1 (omega (arith, w.if-place-ne0.false)) ]

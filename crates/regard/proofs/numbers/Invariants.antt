@@ -1,5 +1,5 @@
 -- `regard::numbers`. The invariant: the first `i` are there. Assumes nothing.
-use Prim.Native.Nat.{◌-◌, ◌≤◌}
+use Prim.Native.Nat.{◌≤◌}
 use mathlib.Core.Path.{◌≡◌}
 use mathlib.Core.List.{map}
 use lib.ListN.{length, take}
@@ -8,7 +8,4 @@ use Rattle.model.specs.State.{number_after, segments_of}
 use Rattle.regard.proofs.numbers.Given as goal
 
 abbrev pub invariant-loop-i : goal.invariant-loop-i
-invariant-loop-i l = (take l.i l.left ≡ map number_after (take l.i (segments_of l.segments l.slots l.image))) × (l.i ≤ l.segments) × (length l.left ≡ most_segments)
-
-abbrev pub decreases-loop-i : goal.decreases-loop-i
-decreases-loop-i l = l.segments - l.i
+invariant-loop-i l = (take l.i l.left ≡ map number_after (take l.i (segments_of l.geometry.segments l.geometry.slots l.image))) × (l.i ≤ l.geometry.segments) × (length l.left ≡ most_segments)

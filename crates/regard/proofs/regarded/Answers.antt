@@ -8,27 +8,27 @@ use Rattle.regard.proofs.regarded.Goals as goal
 
 pub returns-then-next-eq0 : goal.returns-then-next-eq0
 returns-then-next-eq0 c =
-    regards_none c.args.segments c.args.slots c.args.image.now c.requires.some _ c.largest-next.result c.numbers-left.ensures.0 c.numbers-left.ensures.1 c.largest-next.ensures c.if-next-eq0.true
+    regards_none c.args.geometry.segments c.args.geometry.slots c.args.image.now c.requires.some _ c.largest-next.result c.numbers-left.ensures.0 c.numbers-left.ensures.1 c.largest-next.ensures c.if-next-eq0.true
 
 pub overflow_mul-top : goal.overflow_mul-top
 overflow_mul-top c =
     let t = mod-lt (c.largest-next.result - 1) c.requires.some in
-    omega (arith, c.requires, t, segment_inside c.args.segments c.args.slots _ t)
+    omega (arith, c.requires, t, segment_inside c.args.geometry.segments c.args.geometry.slots _ t)
 
 pub overflow_mul-top-2 : goal.overflow_mul-top-2
 overflow_mul-top-2 c =
     let t = mod-lt (c.largest-next.result - 1) c.requires.some in
-    omega (arith, c.requires, t, segment_inside c.args.segments c.args.slots _ t)
+    omega (arith, c.requires, t, segment_inside c.args.geometry.segments c.args.geometry.slots _ t)
 
 pub overflow_add-top : goal.overflow_add-top
 overflow_add-top c =
     let t = mod-lt (c.largest-next.result - 1) c.requires.some in
-    omega (arith, c.requires, t, segment_inside c.args.segments c.args.slots _ t)
+    omega (arith, c.requires, t, segment_inside c.args.geometry.segments c.args.geometry.slots _ t)
 
 pub bounds-image-top : goal.bounds-image-top
 bounds-image-top c =
     let t = mod-lt (c.largest-next.result - 1) c.requires.some in
-    omega (arith, c.requires, t, segment_inside c.args.segments c.args.slots _ t)
+    omega (arith, c.requires, t, segment_inside c.args.geometry.segments c.args.geometry.slots _ t)
 
 pub offset_bounds-left-next : goal.offset_bounds-left-next
 offset_bounds-left-next c =
@@ -40,8 +40,8 @@ bounds-left-next c =
 
 pub returns-then-image-top : goal.returns-then-image-top
 returns-then-image-top c =
-    regards_owing c.args.segments c.args.slots c.args.image.now c.requires.some _ c.largest-next.result c.numbers-left.ensures.0 c.numbers-left.ensures.1 c.largest-next.ensures (omega (arith, c.if-next-eq0.false)) c.if-image-top.true
+    regards_owing c.args.geometry.segments c.args.geometry.slots c.args.image.now c.requires.some _ c.largest-next.result c.numbers-left.ensures.0 c.numbers-left.ensures.1 c.largest-next.ensures (omega (arith, c.if-next-eq0.false)) c.if-image-top.true
 
 pub returns-else-image-top : goal.returns-else-image-top
 returns-else-image-top c =
-    regards_settled c.args.segments c.args.slots c.args.image.now c.requires.some _ c.largest-next.result c.numbers-left.ensures.0 c.numbers-left.ensures.1 c.largest-next.ensures (omega (arith, c.if-next-eq0.false)) c.if-image-top.false
+    regards_settled c.args.geometry.segments c.args.geometry.slots c.args.image.now c.requires.some _ c.largest-next.result c.numbers-left.ensures.0 c.numbers-left.ensures.1 c.largest-next.ensures (omega (arith, c.if-next-eq0.false)) c.if-image-top.false

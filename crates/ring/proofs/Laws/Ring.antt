@@ -23,7 +23,8 @@ use Rattle.model.proofs.Laws.Ring.{Apart, only_numbered}
 use Rattle.model.proofs.Laws.Clean.{RingFacts, used_next, numbered, in_use_numbered}
 use Rattle.bridge.specs.Held.{Held, held_of_clean, held_count, held_next}
 use Rattle.ring.specs.Seen.{status_at, number_at, LastFollowing, LastUsed, RunFrom, TopSeen, UsedSeen, SeenRing}
-use Rattle.ring.specs.declared.Ring.TheVariants.{InUse, Broken}
+use Rattle.std.specs.Prelude.{Option, None, Some}
+use Rattle.ring.specs.declared.Ring.{Ring}
 
 -- ---- what a header shows
 
@@ -260,10 +261,10 @@ used_some N B s top r z (inr (inl (n, (e, f, c)))) = omega (arith, c)
 used_some N B s top r z (inr (inr (n, (e, f, c)))) = omega (arith, c, f.within)
 
 module _ (N B : ℕ) (s : Image) where
-  is_broken : ((v : View) → Held N B s v → ⊥) → SeenRing N B s Broken
+  is_broken : ((v : View) → Held N B s v → ⊥) → SeenRing N B s None
   is_broken f = record { bounded = tt; exact = λ z c. absurd (f (view N B s) (held_of_clean N B s z c)) }
 
-  pub ring_short : N < 2 → SeenRing N B s Broken
+  pub ring_short : N < 2 → SeenRing N B s None
   ring_short h = is_broken (λ v k. omega (arith, (size_facts N B s k.size).two))
 
   module _ (top used n : ℕ) (a : TopSeen N B s top) (b : UsedSeen N B s top used) (c : n ≡ number_at B s top) where
@@ -291,22 +292,22 @@ module _ (N B : ℕ) (s : Image) where
           spare = omega (arith, m, w.spare);
         }
 
-    pub ring_all : N ≤ used → SeenRing N B s Broken
+    pub ring_all : N ≤ used → SeenRing N B s None
     ring_all h = is_broken (λ v k. omega (arith, (told v k).spare))
 
-    pub ring_limit : erase_limit * N ≤ n → SeenRing N B s Broken
+    pub ring_limit : erase_limit * N ≤ n → SeenRing N B s None
     ring_limit h = is_broken (λ v k. omega (arith, (told v k).below))
 
-    pub ring_index : n % N ≢ top → SeenRing N B s Broken
+    pub ring_index : n % N ≢ top → SeenRing N B s None
     ring_index h = is_broken (λ v k. h (told v k).index)
 
-    pub ring_few : n + 1 < used → SeenRing N B s Broken
+    pub ring_few : n + 1 < used → SeenRing N B s None
     ring_few h = is_broken (λ v k. let d = told v k in omega (arith, d.last, d.counted))
 
-    pub ring_seen : 2 ≤ N → used < N → n < erase_limit * N → used ≤ n + 1 → SeenRing N B s (InUse (record { 0 = n + 1 - used }) used)
+    pub ring_seen : 2 ≤ N → used < N → n < erase_limit * N → used ≤ n + 1 → SeenRing N B s (Some (record { first = record { 0 = n + 1 - used }; used = used }))
     ring_seen z h q f = record { bounded = (used_some N B s top used z b, omega arith, omega arith); exact = λ y x. exactly (view N B s) (held_of_clean N B s y x) }
       where
-        exactly : (v : View) → Held N B s v → InUse (record { 0 = n + 1 - used }) used ≡ InUse (record { 0 = v.first }) (length v.slots)
+        exactly : (v : View) → Held N B s v → ◌≡◌ {A = Option Ring} (Some (record { first = record { 0 = n + 1 - used }; used = used })) (Some (record { first = record { 0 = v.first }; used = length v.slots }))
         exactly v k =
             let d = told v k in
             let m : n + 1 - used ≡ v.first = omega (arith, d.last, d.counted) in

@@ -10,4 +10,4 @@ returns-then-status_at c = inr (sym c.status_at.ensures ∙ c.if-status_at.true,
 pub returns : goal.returns
 returns c =
     let a = c.args in
-    inl (λ e. c.if-status_at.false (c.status_at.ensures ∙ e), subst (λ n. LastFollowing a.segments a.slots a.image.now n c.last_following.result) c.number_at-number.ensures.0 c.last_following.ensures)
+    inl (λ e. c.if-status_at.false (c.status_at.ensures ∙ e), subst (λ n. LastFollowing a.geometry.segments a.geometry.slots a.image.now n c.last_following.result) c.number_at-number.ensures.0 c.last_following.ensures)

@@ -4,7 +4,7 @@ use Rattle.ring.proofs.Laws.Search.{Following}
 use Rattle.ring.proofs.last_following.Given as goal
 
 abbrev pub invariant-loop-low : goal.invariant-loop-low
-invariant-loop-low l = Following l.segments l.slots l.image l.number l.low l.high
+invariant-loop-low l = Following l.geometry.segments l.geometry.slots l.image l.number l.low l.high
 
 abbrev pub decreases-loop-low : goal.decreases-loop-low
 decreases-loop-low l = l.high - l.low

@@ -1,10 +1,7 @@
--- `ring::last_used` walks down. The invariant: none after `index` counts as in use. Assumes nothing.
-use Prim.Native.Nat.{◌<◌}
+-- `ring::last_used` walks down. The invariant: none from `index` on counts as in use. Assumes nothing.
+use Prim.Native.Nat.{◌-◌}
 use Rattle.ring.proofs.Laws.Search.{FreeAfter}
 use Rattle.ring.proofs.last_used.Given as goal
 
 abbrev pub invariant-loop-index : goal.invariant-loop-index
-invariant-loop-index l = (l.index < l.segments) × FreeAfter l.segments l.slots l.image l.index
-
-abbrev pub decreases-loop-index : goal.decreases-loop-index
-decreases-loop-index l = l.index
+invariant-loop-index l = FreeAfter l.geometry.segments l.geometry.slots l.image (l.index - 1)

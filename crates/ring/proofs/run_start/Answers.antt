@@ -1,23 +1,25 @@
--- `ring::run_start` walks down. The invariant: those from `start` up to the end count as in use. Assumes nothing.
-use mathlib.Core.Path.{sym, ◌∙◌}
+-- `ring::run_start` walks down. The invariant: those from `index` up to the end count as in use. Assumes nothing.
+use Prim.Native.Nat.{◌+◌, ◌-◌}
+use mathlib.Core.Path.{◌≡◌, sym, ◌∙◌}
 use native.Mathlib.Omega.{arith}
 use Rattle.ring.proofs.Laws.Search.{used_more}
 use Rattle.ring.proofs.run_start.Goals as goal
 
-pub loop-start-init : goal.loop-start-init
-loop-start-init c = (omega arith, λ j p q. absurd (omega arith))
+pub loop-index-init : goal.loop-index-init
+loop-index-init c = λ j p q. absurd (omega arith)
 
 pub returns-then-status_at : goal.returns-then-status_at
 returns-then-status_at c =
-    let k = c.loop-start in
-    record { within = k.invariant.0; used = k.invariant.1; free = λ p. sym c.status_at.ensures ∙ c.if-status_at.true }
+    let k = c.loop-index in
+    let e : k.index - 1 + 1 ≡ k.index = omega (arith, c.loop-index-test.true) in
+    rw e (record { within = k.auto.index; used = k.invariant; free = λ p. sym c.status_at.ensures ∙ c.if-status_at.true })
 
-pub loop-start-preserved : goal.loop-start-preserved
-loop-start-preserved c =
-    let k = c.loop-start in
-    (omega (arith, k.invariant.0), used_more _ _ k.start _ c.loop-start-test.true k.invariant.1 (λ e. c.if-status_at.false (c.status_at.ensures ∙ e)))
+pub loop-index-preserved : goal.loop-index-preserved
+loop-index-preserved c =
+    let k = c.loop-index in
+    used_more _ _ k.index _ c.loop-index-test.true k.invariant (λ e. c.if-status_at.false (c.status_at.ensures ∙ e))
 
 pub returns : goal.returns
 returns c =
-    let k = c.loop-start in
-    record { within = k.invariant.0; used = k.invariant.1; free = λ p. absurd (omega (arith, c.loop-start-test.false)) }
+    let e : c.loop-index.index ≡ 0 = omega (arith, c.loop-index-test.false) in
+    record { within = omega arith; used = rw e at c.loop-index.invariant; free = λ p. absurd (omega arith) }

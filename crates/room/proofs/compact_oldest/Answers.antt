@@ -7,7 +7,7 @@ use Rattle.room.proofs.compact_oldest.Goals as goal
 
 pub loop-i-init : goal.loop-i-init
 loop-i-init c =
-    progress_start c.args.segments c.args.slots c.args.plan c.args.total c.args.image.now c.requires.0 c.args.budget c.requires.1
+    progress_start c.args.geometry.segments c.args.geometry.slots c.args.plan c.args.total c.args.image.now c.requires.0 c.args.budget c.requires.1
 
 pub after-old-requires : goal.after-old-requires
 after-old-requires c =
@@ -28,18 +28,13 @@ pub compact_segment-done-requires : goal.compact_segment-done-requires
 compact_segment-done-requires c =
     let l = c.loop-i in (
       rw (ran_length l.invariant.ran) c.requires.0.sized,
-      targets_apart c.args.segments c.args.slots c.args.plan c.args.total c.args.image.now c.requires.0 c.args.budget l.i _ _ c.after-old.ensures c.after-number.ensures,
+      targets_apart c.args.geometry.segments c.args.geometry.slots c.args.plan c.args.total c.args.image.now c.requires.0 c.args.budget l.i _ _ c.after-old.ensures c.after-number.ensures,
     )
-
-pub overflow_add-i : goal.overflow_add-i
-overflow_add-i c =
-    let h = c.requires.0 in
-    record { fits = omega (arith, h.sized.segments) }
 
 pub loop-i-preserved : goal.loop-i-preserved
 loop-i-preserved c =
     let l = c.loop-i in
-    progress_next c.args.segments c.args.slots c.args.plan c.args.total c.args.image.now c.requires.0 c.args.budget c.requires.1 l.i l.left l.slot _ l.invariant c.loop-i-test.true
+    progress_next c.args.geometry.segments c.args.geometry.slots c.args.plan c.args.total c.args.image.now c.requires.0 c.args.budget c.requires.1 l.i l.left l.slot _ l.invariant c.loop-i-test.true
     _ _ _ _ c.after-old.ensures c.after-number.ensures c.compact_segment-done.ensures
 
 pub after-first-requires : goal.after-first-requires
@@ -54,4 +49,4 @@ shape_of-image c = ran_length c.loop-i.invariant.ran
 pub returns : goal.returns
 returns c =
     let l = c.loop-i in
-    progress_end c.args.segments c.args.slots c.args.plan c.args.total c.args.image.now c.requires.0 c.args.budget c.requires.1 l.i l.left l.slot _ l.invariant c.loop-i-test.false refl refl c.after-first.ensures refl
+    progress_end c.args.geometry.segments c.args.geometry.slots c.args.plan c.args.total c.args.image.now c.requires.0 c.args.budget c.requires.1 l.i l.left l.slot _ l.invariant c.loop-i-test.false refl refl (omega (arith, c.after-first.ensures, l.invariant.bound, c.loop-i-test.false)) refl

@@ -4,9 +4,9 @@ use mathlib.Core.Path.{refl}
 use Rattle.room.proofs.Laws.{worked_there, worked_opened}
 use Rattle.room.proofs.make_room.Goals as goal
 
-pub returns-then-plan-slots : goal.returns-then-plan-slots
-returns-then-plan-slots c =
-    worked_there c.args.segments c.args.slots c.args.plan c.args.total c.args.image.now c.requires c.args.budget _ c.if-plan-slots.true refl refl refl refl
+pub returns-then-plan-geometry : goal.returns-then-plan-geometry
+returns-then-plan-geometry c =
+    worked_there c.args.geometry.segments c.args.geometry.slots c.args.plan c.args.total c.args.image.now c.requires c.args.budget _ c.if-plan-geometry.true refl refl refl refl
 
 pub overflow_add-used : goal.overflow_add-used
 overflow_add-used c =
@@ -21,6 +21,6 @@ after-requires c =
 pub open_header-left-requires : goal.open_header-left-requires
 open_header-left-requires c = c.requires.sized
 
-pub returns-then-used-segments : goal.returns-then-used-segments
-returns-then-used-segments c =
-    worked_opened c.args.segments c.args.slots c.args.plan c.args.total c.args.image.now c.requires c.args.budget _ _ c.if-plan-slots.false c.if-used-segments.true c.after.ensures refl refl refl c.open_header-left.ensures
+pub returns-then-used-geometry : goal.returns-then-used-geometry
+returns-then-used-geometry c =
+    worked_opened c.args.geometry.segments c.args.geometry.slots c.args.plan c.args.total c.args.image.now c.requires c.args.budget _ _ c.if-plan-geometry.false c.if-used-geometry.true c.after.ensures refl refl refl c.open_header-left.ensures

@@ -13,4 +13,5 @@ returns c =
     let a = c.args in
     let k = a.block.0 % 64 in
     let e : 1 * 2 ^ k % 18446744073709551616 ≡ 2 ^ k = shl_exact {a = 1} 1 k 64 (omega arith) (omega arith) ∙ one-mul (2 ^ k) in
-    (rw c.wide-i.ensures, rw (c.wide-i.ensures, e))
+    let i : c.from-i.result ≡ a.block.0 = omega arith in
+    (rw i, rw (i, e))

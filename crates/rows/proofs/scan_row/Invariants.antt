@@ -7,6 +7,3 @@ use Rattle.rows.proofs.scan_row.Given as goal
 abbrev pub invariant-loop-i : goal.invariant-loop-i
 invariant-loop-i l =
     (see_all (kinds_at l.image (l.at + l.i * 256) (l.slots - l.i)) (pass l.row l.seen) ≡ see_all (kinds_at l.image l.at l.slots) (pass no_row l.initial.seen)) × (l.i ≤ l.slots) × Small l.row l.i
-
-abbrev pub decreases-loop-i : goal.decreases-loop-i
-decreases-loop-i l = l.slots - l.i

@@ -4,14 +4,14 @@ use Rattle.scan.specs.Find.{numbered_found}
 use Rattle.scan.specs.Surveys.{old_in}
 use Rattle.scan.proofs.old_slot.Goals as goal
 
-pub returns-in-At : goal.returns-in-At
+pub returns-in-Some : goal.returns-in-Some
 unfolding old_in
-returns-in-At c =
-    ap old_in (sym c.in-At.is ∙ (c.find-found.ensures
-    ∙ numbered_found c.args.segments c.args.slots c.args.exam.sum.block.0 c.args.image.now c.requires.0.some c.args.exam.used c.args.exam.first c.requires.2))
+returns-in-Some c =
+    ap old_in (sym c.in-Some.is ∙ (c.find-found.ensures
+    ∙ numbered_found c.args.geometry.segments c.args.geometry.slots c.args.exam.sum.block.0 c.args.image.now c.requires.0.some c.args.exam.used c.args.exam.first c.requires.2))
 
-pub returns-in-Nothing : goal.returns-in-Nothing
+pub returns-in-None : goal.returns-in-None
 unfolding old_in
-returns-in-Nothing c =
-    ap old_in (sym c.in-Nothing.is ∙ (c.find-found.ensures
-    ∙ numbered_found c.args.segments c.args.slots c.args.exam.sum.block.0 c.args.image.now c.requires.0.some c.args.exam.used c.args.exam.first c.requires.2))
+returns-in-None c =
+    ap old_in (sym c.in-None.is ∙ (c.find-found.ensures
+    ∙ numbered_found c.args.geometry.segments c.args.geometry.slots c.args.exam.sum.block.0 c.args.image.now c.requires.0.some c.args.exam.used c.args.exam.first c.requires.2))

@@ -9,25 +9,25 @@ use Rattle.scan.proofs.slot_place.Goals as goal
 pub overflow_mul-result : goal.overflow_mul-result
 overflow_mul-result c =
     let m = mod-lt c.args.number c.requires.0 in
-    let a : c.args.number % c.args.segments * (c.args.slots + 1) ≤ most_segments * (c.args.slots + 1) = mul-le-mul_right (c.args.slots + 1) (omega (arith, c.requires.1)) in
+    let a : c.args.number % c.args.geometry.segments * (c.args.geometry.slots + 1) ≤ most_segments * (c.args.geometry.slots + 1) = mul-le-mul_right (c.args.geometry.slots + 1) (omega (arith, c.requires.1)) in
     omega (arith, c.requires.2, c.requires.3)
 
 pub overflow_add-result-2 : goal.overflow_add-result-2
 overflow_add-result-2 c =
     let m = mod-lt c.args.number c.requires.0 in
-    let a : c.args.number % c.args.segments * (c.args.slots + 1) ≤ most_segments * (c.args.slots + 1) = mul-le-mul_right (c.args.slots + 1) (omega (arith, c.requires.1)) in
+    let a : c.args.number % c.args.geometry.segments * (c.args.geometry.slots + 1) ≤ most_segments * (c.args.geometry.slots + 1) = mul-le-mul_right (c.args.geometry.slots + 1) (omega (arith, c.requires.1)) in
     omega (arith, c.requires.2, c.requires.3)
 
 pub overflow_add-result-3 : goal.overflow_add-result-3
 overflow_add-result-3 c =
     let m = mod-lt c.args.number c.requires.0 in
-    let a : c.args.number % c.args.segments * (c.args.slots + 1) ≤ most_segments * (c.args.slots + 1) = mul-le-mul_right (c.args.slots + 1) (omega (arith, c.requires.1)) in
+    let a : c.args.number % c.args.geometry.segments * (c.args.geometry.slots + 1) ≤ most_segments * (c.args.geometry.slots + 1) = mul-le-mul_right (c.args.geometry.slots + 1) (omega (arith, c.requires.1)) in
     omega (arith, c.requires.2, c.requires.3)
 
 pub overflow_mul-result-2 : goal.overflow_mul-result-2
 overflow_mul-result-2 c =
     let m = mod-lt c.args.number c.requires.0 in
-    let a : c.args.number % c.args.segments * (c.args.slots + 1) ≤ most_segments * (c.args.slots + 1) = mul-le-mul_right (c.args.slots + 1) (omega (arith, c.requires.1)) in
+    let a : c.args.number % c.args.geometry.segments * (c.args.geometry.slots + 1) ≤ most_segments * (c.args.geometry.slots + 1) = mul-le-mul_right (c.args.geometry.slots + 1) (omega (arith, c.requires.1)) in
     omega (arith, c.requires.2, c.requires.3)
 
 pub returns : goal.returns

@@ -8,20 +8,20 @@ use Rattle.scan.specs.declared.Surveyed.TheVariants.{ErasePending}
 use Rattle.scan.proofs.Laws.Surveys.{tested}
 use Rattle.scan.proofs.survey_owing.Goals as goal
 
-pub returns-then-exam-segments : goal.returns-then-exam-segments
+pub returns-then-exam-geometry : goal.returns-then-exam-geometry
 unfolding owing_in
-returns-then-exam-segments c = rw (ne_eqb _ _ c.if-exam-segments.true)
+returns-then-exam-geometry c = rw (ne_eqb _ _ c.if-exam-geometry.true)
 
 pub returns-then-orderly : goal.returns-then-orderly
 unfolding owing_in
 returns-then-orderly c =
     let a = c.args in
     let o = tested orderly a.exam.sum c.capacity.ensures.0 c.orderly.ensures in
-    rw (eq-eqb _ _ c.if-exam-segments.false, o ∙ c.if-orderly.true) (ap (λ (k : ℕ). ErasePending (record { 0 = k }) a.seen.blank) c.top_number-top.ensures)
+    rw (eq-eqb _ _ c.if-exam-geometry.false, o ∙ c.if-orderly.true) (ap (λ (k : ℕ). ErasePending (record { 0 = k }) a.seen.blank) c.top_number-top.ensures)
 
 pub returns : goal.returns
 unfolding owing_in
 returns c =
     let a = c.args in
     let o = tested orderly a.exam.sum c.capacity.ensures.0 c.orderly.ensures in
-    rw (eq-eqb _ _ c.if-exam-segments.false, o ∙ c.if-orderly.false)
+    rw (eq-eqb _ _ c.if-exam-geometry.false, o ∙ c.if-orderly.false)

@@ -10,11 +10,5 @@ use Rattle.segments.proofs.see_frame.Given as goal
 abbrev pub invariant-loop-i : goal.invariant-loop-i
 invariant-loop-i l = (counted l.counts (drop l.i (heads l.segments l.table)) ≡ counts_of (heads l.segments l.table)) × (l.counts.used ≤ l.i) × (l.counts.next ≤ 4294967296) × (l.i ≤ l.segments)
 
-abbrev pub decreases-loop-i : goal.decreases-loop-i
-decreases-loop-i l = l.segments - l.i
-
 abbrev pub invariant-loop-k : goal.invariant-loop-k
 invariant-loop-k l = (numbers_from l.segments (heads l.segments l.table) (l.used - l.k) (l.first + l.k) ≡ numbers_from l.segments (heads l.segments l.table) l.used l.first) × (l.k ≤ l.used)
-
-abbrev pub decreases-loop-k : goal.decreases-loop-k
-decreases-loop-k l = l.used - l.k

@@ -9,7 +9,7 @@ pub slice_bounds-read_layout-end : goal.slice_bounds-read_layout-end
 slice_bounds-read_layout-end c = sym (length-take-le _ _ (omega arith))
 
 pub slice_bounds-layout-end : goal.slice_bounds-layout-end
-slice_bounds-layout-end c = omega (arith, listed_within 512 _ _ (sym c.in-Listed.is ∙ c.read_layout-listing.ensures.0))
+slice_bounds-layout-end c = omega (arith, listed_within 512 _ _ (sym c.in-Ok.is ∙ c.read_layout-listing.ensures.0))
 
 pub slice_bounds-on_image-end : goal.slice_bounds-on_image-end
-slice_bounds-on_image-end c = sym (length-take-le _ _ (omega (arith, listed_within 512 _ _ (sym c.in-Listed.is ∙ c.read_layout-listing.ensures.0))))
+slice_bounds-on_image-end c = sym (length-take-le _ _ (omega (arith, listed_within 512 _ _ (sym c.in-Ok.is ∙ c.read_layout-listing.ensures.0))))

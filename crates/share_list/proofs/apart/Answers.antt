@@ -1,5 +1,7 @@
 -- `share_list::apart`. The invariant: whether a range overlaps none of those behind it is whether it overlaps none of those left. Assumes nothing.
+use Prim.Native.Nat.{◌+◌}
 use mathlib.Core.Path.{refl, sym, ap, ◌∙◌}
+use native.Mathlib.Omega.{arith}
 use mathlib.Core.Bool.{not}
 use Rattle.model.specs.Lists.{all}
 use Rattle.shares.specs.Shares.{overlap}
@@ -26,3 +28,13 @@ unfolding all
 returns c =
     let a = c.args in
     sym (c.loop-other.invariant.1 ∙ ap (all (λ y. not (overlap (share_at a.shares.now a.one) y))) (shares_end _ c.loop-other.other c.loop-other.invariant.0 c.loop-other-test.false))
+
+-- nothing is left behind the last one
+pub returns-else-overlaps : goal.returns-else-overlaps
+unfolding all
+returns-else-overlaps c =
+    let a = c.args in
+    let l = c.loop-other in
+    let here = c.loop-other-test.true in
+    let more = goes_on _ _ (l.invariant.1 ∙ all_next a.shares.now l.other l.invariant.0 here (λ y. not (overlap (share_at a.shares.now a.one) y))) (ap not (sym c.overlaps.ensures ∙ c.if-overlaps.false)) in
+    sym (more ∙ ap (all (λ y. not (overlap (share_at a.shares.now a.one) y))) (shares_end a.shares.now (l.other + 3) (stands_next a.shares.now l.other l.invariant.0 here) (omega arith)))

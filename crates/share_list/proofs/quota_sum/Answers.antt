@@ -29,3 +29,14 @@ returns c =
     let l = c.loop-at in
     let e = ap quota_sum (shares_end c.args.shares.now l.at l.invariant.0 c.loop-at-test.false) in
     omega (arith, l.invariant.1)
+
+-- nothing is left behind the last one
+pub returns-2 : goal.returns-2
+unfolding quota_sum
+returns-2 c =
+    let ns = c.args.shares.now in
+    let l = c.loop-at in
+    let here = c.loop-at-test.true in
+    let q = quota_next ns l.at l.invariant.0 here in
+    let e = ap quota_sum (shares_end ns (l.at + 3) (stands_next ns l.at l.invariant.0 here) (omega arith)) in
+    omega (arith, l.invariant.1)

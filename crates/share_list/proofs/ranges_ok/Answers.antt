@@ -1,5 +1,7 @@
 -- `share_list::ranges_ok`. The invariant: whether all ranges are right is whether those left are. Assumes nothing.
+use Prim.Native.Nat.{◌+◌}
 use mathlib.Core.Path.{refl, sym, ap, ◌∙◌}
+use native.Mathlib.Omega.{arith}
 use Rattle.model.specs.Lists.{all}
 use Rattle.shares.specs.Shares.{range_ok}
 use Rattle.share_list.proofs.Laws.{shares_end, stands_next, all_next, goes_on, stops}
@@ -24,3 +26,13 @@ loop-at-preserved c =
 pub returns : goal.returns
 unfolding all
 returns c = let l = c.loop-at in sym (l.invariant.1 ∙ ap (all range_ok) (shares_end _ l.at l.invariant.0 c.loop-at-test.false))
+
+-- nothing is left behind the last one
+pub returns-else-not-range_ok : goal.returns-else-not-range_ok
+unfolding range_ok all
+returns-else-not-range_ok c =
+    let ns = c.args.shares.now in
+    let l = c.loop-at in
+    let here = c.loop-at-test.true in
+    let more = goes_on _ _ (l.invariant.1 ∙ all_next ns l.at l.invariant.0 here range_ok) (sym c.range_ok.ensures ∙ c.if-not-range_ok.false) in
+    sym (more ∙ ap (all range_ok) (shares_end ns (l.at + 3) (stands_next ns l.at l.invariant.0 here) (omega arith)))

@@ -8,12 +8,12 @@ use native.Mathlib.Omega.{arith}
 use mathlib.Core.Path.{sym, subst, ◌∙◌}
 use Rattle.sharing.proofs.delete.Goals as goal
 
-pub returns-in-Refused : goal.returns-in-Refused
+pub returns-in-Err : goal.returns-in-Err
 unfolding wrote block_asked
-returns-in-Refused c =
+returns-in-Err c =
     let a = c.args in
-    sym (refused_outcome a.segments a.slots a.shares.now a.image.now a.tenant (deletes a.block.0) c.in-Refused.answer
-    (subst (Admits a.segments a.slots a.shares.now a.image.now a.tenant a.block.0) c.in-Refused.is c.admit-admitted.ensures))
+    sym (refused_outcome a.segments a.slots a.shares.now a.image.now a.tenant (deletes a.block.0) c.in-Err.answer
+    (subst (Admits a.segments a.slots a.shares.now a.image.now a.tenant a.block.0) c.in-Err.is c.admit-admitted.ensures))
 
 pub returns : goal.returns
 unfolding block_asked

@@ -10,20 +10,20 @@ pub put_within-requires : goal.put_within-requires
 put_within-requires c =
     let a = c.args in
     let p = passes a.segments a.slots a.shares.now a.image.now a.tenant a.block.0
-    (subst (Admits a.segments a.slots a.shares.now a.image.now a.tenant a.block.0) c.in-Part.is c.admit-admitted.ensures).code in
+    (subst (Admits a.segments a.slots a.shares.now a.image.now a.tenant a.block.0) c.in-Ok.is c.admit-admitted.ensures).code in
     (p.size, p.number)
 
-pub returns-in-Refused : goal.returns-in-Refused
+pub returns-in-Err : goal.returns-in-Err
 unfolding wrote block_asked
-returns-in-Refused c =
+returns-in-Err c =
     let a = c.args in
-    sym (refused_outcome a.segments a.slots a.shares.now a.image.now a.tenant (puts a.block.0 a.contents.now) c.in-Refused.answer
-    (subst (Admits a.segments a.slots a.shares.now a.image.now a.tenant a.block.0) c.in-Refused.is c.admit-admitted.ensures))
+    sym (refused_outcome a.segments a.slots a.shares.now a.image.now a.tenant (puts a.block.0 a.contents.now) c.in-Err.answer
+    (subst (Admits a.segments a.slots a.shares.now a.image.now a.tenant a.block.0) c.in-Err.is c.admit-admitted.ensures))
 
-pub returns-in-Part : goal.returns-in-Part
+pub returns-in-Ok : goal.returns-in-Ok
 unfolding block_asked
-returns-in-Part c =
+returns-in-Ok c =
     let a = c.args in
     c.put_within.ensures
-    ∙ sym (allowed_outcome a.segments a.slots a.shares.now a.image.now a.tenant (puts a.block.0 a.contents.now) c.in-Part.part
-    (subst (Admits a.segments a.slots a.shares.now a.image.now a.tenant a.block.0) c.in-Part.is c.admit-admitted.ensures))
+    ∙ sym (allowed_outcome a.segments a.slots a.shares.now a.image.now a.tenant (puts a.block.0 a.contents.now) c.in-Ok.part
+    (subst (Admits a.segments a.slots a.shares.now a.image.now a.tenant a.block.0) c.in-Ok.is c.admit-admitted.ensures))

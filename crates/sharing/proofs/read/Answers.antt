@@ -42,13 +42,13 @@ print-requires c =
     let p = c.read-located.result in
     omega (arith, length-take (p.offset + p.length - p.offset) (drop p.offset a.image.now), told_small a.segments a.slots a.image.now a.block.0 p c.read-located.ensures)
 
-pub returns-in-Refused : goal.returns-in-Refused
+pub returns-in-Err : goal.returns-in-Err
 unfolding printed gave_in block_asked most_contents
-returns-in-Refused c =
+returns-in-Err c =
     let a = c.args in
     let lent = a.contents.now in (
-      ap (λ o. gave_in o lent) (sym (refused_outcome a.segments a.slots a.shares.now a.image.now a.tenant (reads a.block.0 (length lent)) c.in-Refused.answer
-          (subst (Admits a.segments a.slots a.shares.now a.image.now a.tenant a.block.0) c.in-Refused.is c.admit-admitted.ensures))),
+      ap (λ o. gave_in o lent) (sym (refused_outcome a.segments a.slots a.shares.now a.image.now a.tenant (reads a.block.0 (length lent)) c.in-Err.answer
+          (subst (Admits a.segments a.slots a.shares.now a.image.now a.tenant a.block.0) c.in-Err.is c.admit-admitted.ensures))),
       omega arith,
     )
 

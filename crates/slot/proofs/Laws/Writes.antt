@@ -1,11 +1,10 @@
 -- Laws of slots that are made up and then programmed, where they belong in the image.
 use Prim.Native.Nat.{ℕ, zero, suc, ◌+◌, ◌-◌, ◌/◌, ◌%◌, ◌≤◌}
-use mathlib.Core.Path.{◌≡◌, refl, sym, ap, ap₂, ◌∙◌}
+use mathlib.Core.Path.{◌≡◌, refl, sym, ap, ◌∙◌}
 use mathlib.Core.List.{List, [], ◌∷◌, ◌++◌}
 use native.Mathlib.Nat.{add-zero, sub-zero, zero-sub, suc-sub-suc}
 use native.Mathlib.Omega.{arith}
-use lib.ListN.{length, take, drop, set, replicate}
-use lib.Seq.{paste, take-length, drop-drop}
+use lib.ListN.{length, take, drop, replicate}
 use Rattle.model.specs.Chip.{Image, Page, program, erased}
 use Rattle.model.specs.Slot.{most_contents, slot_page}
 use Rattle.model.specs.Steps.{program_part, write_slot, mark_dead}
@@ -54,12 +53,9 @@ drop_replicate zero k v = ap (λ (j : ℕ). replicate j v) (sym (sub-zero k))
 drop_replicate (suc n) zero v = ap (λ (j : ℕ). replicate j v) (sym (zero-sub (suc n)))
 drop_replicate (suc n) (suc k) v = drop_replicate n k v ∙ ap (λ (j : ℕ). replicate j v) (sym (suc-sub-suc k n))
 
-abbrev pub slot_head : ℕ → ℕ → Page
-slot_head l b = set (set (set (set (replicate 256 255) 0 0x3F) 1 l) 2 (b % 256)) 3 (b / 256)
+abbrev pub slot_head : ℕ → ℕ → ℕ → Page
+slot_head l x y = 0x3F ∷ l ∷ x ∷ y ∷ replicate 252 255
 
-pub slot_made : (b : ℕ) (c : List ℕ) (i : ℕ) → i ≡ length c → paste (slot_head (length c) b) 8 c i ≡ slot_page b c
+pub slot_made : (b x y n : ℕ) (c : List ℕ) → x ≡ b % 256 → y ≡ b / 256 → n ≡ length c → take 8 (slot_head (length c) x y) ++ (c ++ drop n (drop 8 (slot_head (length c) x y))) ≡ slot_page b c
 unfolding slot_page most_contents erased
-slot_made b c i e =
-    ap (paste (slot_head (length c) b) 8 c) e
-    ∙ ap₂ (λ (x y : List ℕ). take 8 (slot_head (length c) b) ++ x ++ y) (take-length c)
-    (sym (drop-drop (length c) 8 (slot_head (length c) b)) ∙ drop_replicate (length c) 248 255)
+slot_made b x y n c d e k = rw (d, e, k, drop_replicate (length c) 248 255) refl

@@ -1,29 +1,16 @@
--- `slot::slot_page` makes up the page of the definition. The invariant: the first `i` bytes of the contents are set. Assumes nothing.
-use Prim.Native.Nat.{ℕ, ◌+◌}
-use mathlib.Core.Path.{sym, refl, ap, ◌∙◌}
-use mathlib.Core.List.{List}
-use native.Mathlib.Numerals.{add-one}
+-- `slot::slot_page` makes up the page of the definition: the number's two bytes and the contents are copied into it. Assumes nothing.
+use Prim.Native.Nat.{◌+◌, ◌-◌, ◌/◌, ◌%◌}
+use mathlib.Core.Path.{◌≡◌, refl}
 use native.Mathlib.Omega.{arith}
-use lib.ListN.{length, get_or, set, length-set}
-use lib.Seq.{paste, paste-zero, paste-suc}
-use Rattle.slot.proofs.Laws.Writes.{slot_head, slot_made}
+use lib.ListN.{length}
+use Rattle.slot.proofs.Laws.Writes.{slot_made}
 use Rattle.slot.proofs.slot_page.Goals as goal
-
-pub loop-i-init : goal.loop-i-init
-loop-i-init c = (paste-zero _ 8 c.args.contents.now, omega arith, refl)
-
-pub loop-i-preserved : goal.loop-i-preserved
-loop-i-preserved c =
-    let a = c.args in
-    let h = slot_head (length a.contents.now) a.block.0 in (
-      ap (λ (l : List ℕ). set l (8 + c.loop-i.i) (get_or a.contents.now c.loop-i.i 0)) c.loop-i.invariant.0
-          ∙ paste-suc h 8 a.contents.now c.loop-i.i 0 (omega arith) c.loop-i-test.true
-          ∙ ap (paste h 8 a.contents.now) (sym (add-one c.loop-i.i)),
-      omega arith,
-      simp length-set c.loop-i.invariant.2,
-    )
 
 pub returns : goal.returns
 returns c =
     let a = c.args in
-    c.loop-i.invariant.0 ∙ slot_made a.block.0 a.contents.now c.loop-i.i (omega arith)
+    let b = a.block.0 in
+    let s = a.contents.now in
+    let e : b / 256 % 256 ≡ b / 256 = omega arith in
+    let n : 8 + length s - 8 ≡ length s = omega arith in
+    rw (c.copy_from_slice-2.ensures.after, c.copy_from_slice.ensures.after, c.to_le_bytes.ensures) (slot_made b (b % 256) (b / 256 % 256) (8 + length s - 8) s refl e n)

@@ -13,7 +13,7 @@ use Rattle.model.specs.State.{clean, state, view, place_of}
 use Rattle.model.specs.Steps.{on_page, slot_at, mark_dead, mark_place, open_segment, erase_first, format_steps, delete_steps}
 use Rattle.model.specs.Answers.{code_of, length_ok, Request, format, put, delete, steps_for, work_on, work_of, performed, outcome_of, ReadOutcome, contents_at, read_outcome, piece_read, piece_or}
 use Rattle.model.specs.declared.Answer.{Answer}
-use Rattle.model.specs.declared.Answer.TheVariants.{Size}
+use Rattle.model.specs.declared.Answer.TheVariants.{Done, Size, Number, Length, Damaged, Unfinished, Absent, Full, Worn, Cut, ShortTable, FormerVersion, Foreign, Shares, ShortBuffer}
 use Rattle.model.specs.declared.Performed.{Performed}
 use Rattle.flash.specs.Ran.{Ran, Programmed}
 use Rattle.flash.proofs.Laws.{◌then◌}
@@ -23,6 +23,25 @@ use Rattle.mend.specs.Marks.{PageAt, MarkedAt}
 use Rattle.looking.specs.Look.{There, Kept}
 use Rattle.request.proofs.Answered.{refused_outcome, carried, carried_outcome}
 use Rattle.bridge.specs.Lengths.{open_length, mark_length}
+
+-- 6 is the code of one answer alone
+is_absent : (a : Answer) → code_of a ≡ 6 → a ≡ Absent
+unfolding code_of
+is_absent Done e = absurd (omega arith)
+is_absent Size e = absurd (omega arith)
+is_absent Number e = absurd (omega arith)
+is_absent Length e = absurd (omega arith)
+is_absent Damaged e = absurd (omega arith)
+is_absent Unfinished e = absurd (omega arith)
+is_absent Absent e = refl
+is_absent Full e = absurd (omega arith)
+is_absent Worn e = absurd (omega arith)
+is_absent Cut e = absurd (omega arith)
+is_absent ShortTable e = absurd (omega arith)
+is_absent FormerVersion e = absurd (omega arith)
+is_absent Foreign e = absurd (omega arith)
+is_absent Shares e = absurd (omega arith)
+is_absent ShortBuffer e = absurd (omega arith)
 
 module _ (N B : ℕ) (s : Image) (budget : ℕ) where
   pub size_refused : (q : Request) {p : Performed} → right_size N B s ≡ false → Refused Size p → performed p s ≡ outcome_of N B s budget q
@@ -78,13 +97,13 @@ module _ (N B : ℕ) (s : Image) (b : ℕ) where
   pub code_there : (at size : ℕ) → There N B s b at size → 0 ≡ (read_outcome N B s b).code
   code_there at size k = ap (λ (o : ReadOutcome). o.code) (read_there at size k)
 
-  pub piece_absent : (a : Answer) (factory : List ℕ) → Kept N B s b a → code_of a ≡ 6 → factory ≡ piece_or N B s b factory
-  unfolding piece_or
-  piece_absent a factory k e = rw (← (read_refused a k), e)
+  pub piece_absent : (a : Answer) (factory : List ℕ) → Kept N B s b a → a ≡ Absent → factory ≡ piece_or N B s b factory
+  unfolding piece_or code_of
+  piece_absent a factory k i = let e : code_of a ≡ 6 = rw i refl in rw (← (read_refused a k), e)
 
-  pub piece_refused : (a : Answer) (factory : List ℕ) → Kept N B s b a → (code_of a ≡ 6 → ⊥) → [] ≡ piece_or N B s b factory
+  pub piece_refused : (a : Answer) (factory : List ℕ) → Kept N B s b a → (a ≡ Absent → ⊥) → [] ≡ piece_or N B s b factory
   unfolding piece_or piece_read
-  piece_refused a factory k n = rw (← (read_refused a k), ne_eqb (code_of a) 6 n)
+  piece_refused a factory k n = rw (← (read_refused a k), ne_eqb (code_of a) 6 (λ e. n (is_absent a e)))
 
   pub piece_there : (at size : ℕ) (factory : List ℕ) → There N B s b at size → take size (drop (at + 8) s) ≡ piece_or N B s b factory
   unfolding piece_or piece_read

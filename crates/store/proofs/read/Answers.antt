@@ -6,22 +6,22 @@ use Rattle.looking.specs.Look.{Looks}
 use Rattle.store.proofs.Laws.Requests.{read_refused, read_there}
 use Rattle.store.proofs.read.Goals as goal
 
-pub returns-in-At : goal.returns-in-At
+pub returns-in-Ok : goal.returns-in-Ok
 unfolding located code_of
-returns-in-At c =
+returns-in-Ok c =
     let a = c.args in
     read_there a.segments a.slots a.image.now a.block.0 _ _
-    (subst (Looks a.segments a.slots a.image.now a.block.0) c.in-At.is c.look-looked.ensures)
+    (subst (Looks a.segments a.slots a.image.now a.block.0) c.in-Ok.is c.look-looked.ensures)
 
 pub overflow_add-result : goal.overflow_add-result
 overflow_add-result c =
     let a = c.args in
-    let there = subst (Looks a.segments a.slots a.image.now a.block.0) c.in-At.is c.look-looked.ensures in
+    let there = subst (Looks a.segments a.slots a.image.now a.block.0) c.in-Ok.is c.look-looked.ensures in
     omega (arith, there.inside)
 
-pub returns-in-Refused : goal.returns-in-Refused
+pub returns-in-Err : goal.returns-in-Err
 unfolding located
-returns-in-Refused c =
+returns-in-Err c =
     let a = c.args in
-    read_refused a.segments a.slots a.image.now a.block.0 c.in-Refused.answer
-    (subst (Looks a.segments a.slots a.image.now a.block.0) c.in-Refused.is c.look-looked.ensures)
+    read_refused a.segments a.slots a.image.now a.block.0 c.in-Err.answer
+    (subst (Looks a.segments a.slots a.image.now a.block.0) c.in-Err.is c.look-looked.ensures)

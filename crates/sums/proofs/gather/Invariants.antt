@@ -1,5 +1,5 @@
 -- `sums::gather` gathers the summaries of the segments in use, oldest first. Assumes nothing.
-use Prim.Native.Nat.{◌-◌, ◌≤◌}
+use Prim.Native.Nat.{◌≤◌}
 use mathlib.Core.Path.{◌≡◌}
 use lib.ListN.{length}
 use Rattle.model.specs.Chip.{most_segments}
@@ -10,7 +10,4 @@ use Rattle.sums.proofs.gather.Given as goal
 
 abbrev pub invariant-loop-i : goal.invariant-loop-i
 invariant-loop-i l =
-    (gathered l.image l.segments l.slots l.used l.first l.i l.ring l.seen ≡ summaries_of l.first (tallies (rows_on l.image l.segments l.slots l.used l.first) none_met)) × (l.i ≤ l.used) × (length l.ring ≡ most_segments)
-
-abbrev pub decreases-loop-i : goal.decreases-loop-i
-decreases-loop-i l = l.used - l.i
+    (gathered l.image l.geometry.segments l.geometry.slots l.used l.first l.i l.ring l.seen ≡ summaries_of l.first (tallies (rows_on l.image l.geometry.segments l.geometry.slots l.used l.first) none_met)) × (l.i ≤ l.used) × (length l.ring ≡ most_segments)

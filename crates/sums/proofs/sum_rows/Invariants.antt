@@ -1,5 +1,5 @@
 -- `sums::sum_rows` adds rows up as the definition does. Assumes nothing.
-use Prim.Native.Nat.{◌-◌, ◌≤◌}
+use Prim.Native.Nat.{◌≤◌}
 use mathlib.Core.Path.{◌≡◌}
 use mathlib.Core.List.{map}
 use lib.ListN.{take}
@@ -9,6 +9,3 @@ use Rattle.sums.proofs.sum_rows.Given as goal
 
 abbrev pub invariant-loop-i : goal.invariant-loop-i
 invariant-loop-i l = (add_rows (rows_left l.ring l.used l.i) l.sum ≡ add_rows (map row_of (take l.used l.ring)) no_sum) × (l.i ≤ l.used) × Few l.sum l.i
-
-abbrev pub decreases-loop-i : goal.decreases-loop-i
-decreases-loop-i l = l.used - l.i

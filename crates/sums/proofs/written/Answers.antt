@@ -6,8 +6,8 @@ use Rattle.sums.proofs.written.Goals as goal
 
 pub returns-then-ends_torn : goal.returns-then-ends_torn
 unfolding written_in
-returns-then-ends_torn c = (rw (c.wide.ensures, c.wide-2.ensures, c.wide-3.ensures, sym c.ends_torn.ensures ∙ c.if-ends_torn.true), omega arith)
+returns-then-ends_torn c = (rw (sym c.ends_torn.ensures ∙ c.if-ends_torn.true) (omega arith), omega arith)
 
 pub returns-else-ends_torn : goal.returns-else-ends_torn
 unfolding written_in
-returns-else-ends_torn c = (rw (c.wide.ensures, c.wide-2.ensures, c.wide-3.ensures, sym c.ends_torn.ensures ∙ c.if-ends_torn.false) (omega arith), omega arith)
+returns-else-ends_torn c = (rw (sym c.ends_torn.ensures ∙ c.if-ends_torn.false) (omega arith), omega arith)

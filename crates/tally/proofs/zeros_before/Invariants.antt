@@ -1,5 +1,5 @@
 -- `tally::zeros_before` counts the bytes of the definition. The invariant: the bytes from `i` on give the rest of the answer. Assumes nothing.
-use Prim.Native.Nat.{◌+◌, ◌-◌, ◌≤◌}
+use Prim.Native.Nat.{◌+◌, ◌≤◌}
 use mathlib.Core.Path.{◌≡◌}
 use lib.ListN.{length, drop}
 use Rattle.tally.specs.Seen.{zeros_before}
@@ -7,6 +7,3 @@ use Rattle.tally.proofs.zeros_before.Given as goal
 
 abbrev pub invariant-loop-i : goal.invariant-loop-i
 invariant-loop-i l = (l.i ≤ length l.bytes) × (l.i + zeros_before (drop l.i l.bytes) ≡ zeros_before l.bytes)
-
-abbrev pub decreases-loop-i : goal.decreases-loop-i
-decreases-loop-i l = length l.bytes - l.i

@@ -10,6 +10,3 @@ use Rattle.text.proofs.add_number.Given as goal
 abbrev pub invariant-loop-i : goal.invariant-loop-i
 invariant-loop-i l =
     (l.at ≤ l.i) × (l.i ≤ length l.initial.text) × (length l.text ≡ length l.initial.text) × (over l.text l.at (last_digits (l.i - l.at) l.rest) ≡ over l.initial.text l.at (decimal l.n))
-
-abbrev pub decreases-loop-i : goal.decreases-loop-i
-decreases-loop-i l = l.i - l.at

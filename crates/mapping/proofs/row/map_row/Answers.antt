@@ -9,12 +9,12 @@ use Rattle.mapping.proofs.row.map_row.Goals as goal
 
 pub used_row-requires : goal.used_row-requires
 used_row-requires c =
-    let p = segment_inside c.args.segments c.args.slots c.args.index _ c.requires.0 c.requires.1 in
+    let p = segment_inside c.args.geometry.segments c.args.geometry.slots c.args.index _ c.requires.0 c.requires.1 in
     (omega arith, c.requires.0.slots, omega (arith, c.requires), c.requires.2, omega arith)
 
 pub used_row-requires-in-Owing : goal.used_row-requires-in-Owing
 used_row-requires-in-Owing c =
-    let p = segment_inside c.args.segments c.args.slots c.args.index _ c.requires.0 c.requires.1 in
+    let p = segment_inside c.args.geometry.segments c.args.geometry.slots c.args.index _ c.requires.0 c.requires.1 in
     (omega arith, c.requires.0.slots, omega (arith, c.requires), c.requires.2, omega arith)
 
 pub returns-in-Blank : goal.returns-in-Blank

@@ -1,5 +1,0 @@
--- Each call is for the buffer before.
-use Rattle.qbx_buffers.proofs.+within.Given as goal
-
-abbrev pub decreases-within : goal.decreases-within
-decreases-within l = l.last
