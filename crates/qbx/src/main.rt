@@ -5,6 +5,7 @@
 
 ghost use Rattle.std.specs.Prelude.{◌≤◌, length, IfSome};
 
+use qbx_out::{Console, Program};
 use qbx_share_words::{ShareCommand, ShareVerb};
 use qbx_system::{STDERR_FILENO, STDOUT_FILENO, System};
 use qbx_verbs::Verb;
@@ -92,17 +93,15 @@ fn put(system: &mut System, path: &[u8], command: Command) {
         path,
         command,
         &contents[..n],
-        STDOUT_FILENO,
-        STDERR_FILENO,
+        Console::apart(Program::Qbx),
     );
 }
 
 fn obey(system: &mut System, path: &[u8], command: Command) {
-    let verb = command.verb;
-    if let Verb::Put = verb {
+    if let Verb::Put = command.verb {
         put(system, path, command);
     } else {
-        qbx_buffers::obey(system, path, command, b"", STDOUT_FILENO, STDERR_FILENO);
+        qbx_buffers::obey(system, path, command, b"", Console::apart(Program::Qbx));
     }
 }
 
@@ -135,7 +134,7 @@ fn read_move(system: &mut System, path: &[u8], verb: &[u8], target: &[u8]) {
     );
     match reading {
         Ok(command) => {
-            qbx_move_buffers::obey(system, path, target, command, STDOUT_FILENO, STDERR_FILENO);
+            qbx_move_buffers::obey(system, path, target, command, Console::apart(Program::Qbx));
         }
         Err(complaint) => qbx_out::complain(complaint, STDERR_FILENO),
     }
@@ -152,14 +151,12 @@ fn share_put(system: &mut System, path: &[u8], shares: &[u8], command: ShareComm
         shares,
         command,
         &contents[..n],
-        STDOUT_FILENO,
-        STDERR_FILENO,
+        Console::apart(Program::Qbx),
     );
 }
 
 fn share(system: &mut System, path: &[u8], shares: &[u8], command: ShareCommand) {
-    let verb = command.verb;
-    if let ShareVerb::Put = verb {
+    if let ShareVerb::Put = command.verb {
         share_put(system, path, shares, command);
     } else {
         qbx_share_buffers::obey(
@@ -168,8 +165,7 @@ fn share(system: &mut System, path: &[u8], shares: &[u8], command: ShareCommand)
             shares,
             command,
             b"",
-            STDOUT_FILENO,
-            STDERR_FILENO,
+            Console::apart(Program::Qbx),
         );
     }
 }

@@ -3,6 +3,7 @@
 
 ghost use Rattle.std.specs.Prelude.{◌≡◌, true};
 
+use qbx_out::Console;
 use qbx_rooms::{Buffer, Process};
 use qbx_system::System;
 use qbx_words::Command;
@@ -14,18 +15,17 @@ pub fn obey(
     path: &[u8],
     command: Command,
     contents: &[u8],
-    out: i32,
-    err: i32,
+    console: Console,
 ) -> bool
     ensures { result ≡ true }
 {
     let allowed = qbx_stack::allowed(system) / 1024;
-    let process = Process { allowed, out, err };
+    let process = Process { allowed, console };
     let size = request::size_of(command.segments as usize, command.slots as usize);
     let buffer = qbx_rooms::smallest_for(size);
     let prints = qbx_verbs::prints(command.verb);
     if let Some(needed) = qbx_rooms::lacking(buffer, prints, allowed) {
-        qbx_out::lack_stack(size, needed, allowed, err);
+        qbx_out::lack_stack(size, needed, allowed, console.err);
         return true;
     }
     if prints {

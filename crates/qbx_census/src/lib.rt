@@ -62,18 +62,11 @@ fn count_slots(image: &[u8], at: usize, slots: usize, census: Census) -> Census
 }
 
 // One segment more, if it is in use.
-fn count_segment(
-    image: &[u8],
-    segments: usize,
-    slots: usize,
-    index: usize,
-    census: Census,
-) -> Census
-    requires { Sized segments slots (length image.now) × (index < segments) × (total census ≤ 90000) }
-    ensures { (result ≡ count_segment census (get_or (segments_of segments slots image.now) index blank)) × (total result ≤ total census + 256) }
+fn count_segment(image: &[u8], geometry: Geometry, index: usize, census: Census) -> Census
+    requires { Sized geometry.segments geometry.slots (length image.now) × (index < geometry.segments) × (total census ≤ 90000) }
+    ensures { (result ≡ count_segment census (get_or (segments_of geometry.segments geometry.slots image.now) index blank)) × (total result ≤ total census + 256) }
 {
-    let geometry = Geometry { segments, slots };
-    let at = index * (slots + 1) * 256;
+    let at = index * (geometry.slots + 1) * 256;
     let first = at + 256;
     let Some(_) = header_seen::see_header(&image[at..first], geometry, index) else {
         return census;
@@ -82,13 +75,13 @@ fn count_segment(
         segments: census.segments + 1,
         ..census
     };
-    count_slots(image, first, slots, more)
+    count_slots(image, first, geometry.slots, more)
 }
 
 // Every segment but the one left aside.
-pub fn take_census(image: &[u8], segments: usize, slots: usize, aside: usize) -> Census
-    requires { Sized segments slots (length image.now) }
-    ensures { result ≡ census_of (set_aside aside (segments_of segments slots image.now)) }
+pub fn take_census(image: &[u8], geometry: Geometry, aside: usize) -> Census
+    requires { Sized geometry.segments geometry.slots (length image.now) }
+    ensures { result ≡ census_of (set_aside aside (segments_of geometry.segments geometry.slots image.now)) }
 {
     let mut census = Census {
         segments: 0,
@@ -97,9 +90,9 @@ pub fn take_census(image: &[u8], segments: usize, slots: usize, aside: usize) ->
         cut: 0,
         empty: 0,
     };
-    for i in 0..segments {
+    for i in 0..geometry.segments {
         if i != aside {
-            census = count_segment(image, segments, slots, i, census);
+            census = count_segment(image, geometry, i, census);
         }
     }
     census

@@ -49,7 +49,8 @@ pub fn length_of(file: &mut File, read: usize) -> u64
     }
 }
 
-// The name beside a path, for the file that is to take its place. None if it is too long.
+// The name beside a path, for the file that is to take its place: how many bytes, 0 if it is too long.
+// Kept: no name is an empty one to every caller, and the system tells why it has none; an `Option` would be taken for 0 by each.
 pub fn beside(path: &[u8], name: &mut [u8]) -> usize
     ensures prefix_len { IsPrefixLen result name.new }
     ensures name_after { take result name.new ≡ beside_of (length name.old) path.now }

@@ -27,15 +27,7 @@ pub fn obey<const BYTES: usize>(
     ensures { result ≡ true }
 {
     let mut image = [255u8; BYTES];
-    qbx_work::obey(
-        system,
-        &mut image,
-        path,
-        command,
-        contents,
-        process.out,
-        process.err,
-    );
+    qbx_work::obey(system, &mut image, path, command, contents, process.console);
     true
 }
 
@@ -58,8 +50,7 @@ pub fn show<const BYTES: usize, const TEXT: usize>(
         &mut text,
         path,
         command,
-        process.out,
-        process.err,
+        process.console,
     );
     true
 }

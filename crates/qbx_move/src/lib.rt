@@ -7,7 +7,7 @@ ghost use Rattle.request.specs.Request.{size_of};
 
 use model::Answer;
 use qbx_move_words::Move;
-use qbx_out::{fail, print};
+use qbx_out::{Console, fail, print, save};
 use qbx_same::Clash;
 use qbx_system::System;
 
@@ -45,22 +45,17 @@ fn work(
     path: &[u8],
     command: Move,
     there: There,
-    out: i32,
-    err: i32,
+    console: Console,
 ) {
     let performed = qbx_move_request::perform(source, target, command);
-    if performed.steps > 0 {
-        if !qbx_files::replace(system, path, target) {
-            fail(system, err, b"write ", path);
-            return;
-        }
-    }
-    let answer = performed.answer;
-    if let Answer::Size = answer {
-        tell_size(source, command, there, out);
+    if performed.steps > 0 && !save(system, console, path, target) {
         return;
     }
-    print(out, qbx_says::say_performed(performed));
+    if let Answer::Size = performed.answer {
+        tell_size(source, command, there, console.out);
+        return;
+    }
+    print(console.out, qbx_says::say_performed(performed));
 }
 
 // Both files are read; where the target has none yet, it is a chip from the factory.
@@ -71,21 +66,20 @@ fn carry(
     path: &[u8],
     target_path: &[u8],
     command: Move,
-    out: i32,
-    err: i32,
+    console: Console,
 )
     requires { (size_of command.source.segments command.source.slots < length source.old) × (size_of command.target.segments command.target.slots < length target.old) }
 {
     let from = command.source;
     let size = qbx_move_words::size_of(from);
     let Some(file) = qbx_images::present(system, source, path, size, false) else {
-        fail(system, err, b"read ", path);
+        fail(system, console, b"read ", path);
         return;
     };
     let to = command.target;
     let size = qbx_move_words::size_of(to);
     let Some(other) = qbx_images::present(system, target, target_path, size, true) else {
-        fail(system, err, b"read ", target_path);
+        fail(system, console, b"read ", target_path);
         return;
     };
     let there = There {
@@ -101,26 +95,25 @@ fn carry(
         target_path,
         command,
         there,
-        out,
-        err,
+        console,
     );
 }
 
 // Says that the name beside a path could not be looked at.
-fn fail_beside(system: &mut System, path: &[u8], err: i32) {
+fn fail_beside(system: &mut System, path: &[u8], console: Console) {
     let mut name = io::buffer();
     let n = qbx_files::beside(path, &mut name);
-    fail(system, err, b"read ", &name[..n]);
+    fail(system, console, b"read ", &name[..n]);
 }
 
 // Says why the target is not written.
-fn refuse(system: &mut System, clash: Clash, path: &[u8], target_path: &[u8], err: i32) {
+fn refuse(system: &mut System, clash: Clash, path: &[u8], target_path: &[u8], console: Console) {
     match clash {
-        Clash::NoSource => fail(system, err, b"read ", path),
-        Clash::NoTarget => fail(system, err, b"read ", target_path),
-        Clash::NoBeside => fail_beside(system, target_path, err),
+        Clash::NoSource => fail(system, console, b"read ", path),
+        Clash::NoTarget => fail(system, console, b"read ", target_path),
+        Clash::NoBeside => fail_beside(system, target_path, console),
         Clash::Apart | Clash::IsSource | Clash::SourceBeside | Clash::InTheWay => {
-            print(err, qbx_move_says::say_clash(clash))
+            print(console.err, qbx_move_says::say_clash(clash))
         }
     }
 }
@@ -134,15 +127,14 @@ pub fn obey(
     path: &[u8],
     target_path: &[u8],
     command: Move,
-    out: i32,
-    err: i32,
+    console: Console,
 )
     requires { (size_of command.source.segments command.source.slots < length source.old) × (size_of command.target.segments command.target.slots < length target.old) }
 {
     let clash = qbx_same::clash_of(system, path, target_path);
     if let Clash::Apart = clash {
-        carry(system, source, target, path, target_path, command, out, err);
+        carry(system, source, target, path, target_path, command, console);
         return;
     }
-    refuse(system, clash, path, target_path, err);
+    refuse(system, clash, path, target_path, console);
 }

@@ -4,6 +4,7 @@
 ghost use Rattle.std.specs.Prelude.{◌≡◌, true};
 
 use qbx_move_words::Move;
+use qbx_out::Console;
 use qbx_rooms::{Buffer, Process};
 use qbx_system::System;
 
@@ -14,17 +15,16 @@ pub fn obey(
     path: &[u8],
     target: &[u8],
     command: Move,
-    out: i32,
-    err: i32,
+    console: Console,
 ) -> bool
     ensures { result ≡ true }
 {
     let allowed = qbx_stack::allowed(system) / 1024;
-    let process = Process { allowed, out, err };
+    let process = Process { allowed, console };
     let size = qbx_move_words::larger_size(command);
     let buffer = qbx_rooms::smallest_for(size);
     if let Some(needed) = qbx_rooms::lacking_for_move(buffer, allowed) {
-        qbx_out::lack_stack(size, needed, allowed, err);
+        qbx_out::lack_stack(size, needed, allowed, console.err);
         return true;
     }
     match buffer {

@@ -32,8 +32,7 @@ pub fn obey<const BYTES: usize>(
         path,
         target,
         command,
-        process.out,
-        process.err,
+        process.console,
     );
     true
 }

@@ -7,7 +7,7 @@ use Rattle.qbx_numbers.specs.Number.{number_of, as_number}
 use Rattle.qbx_words.specs.Command.{is_missing}
 use Rattle.qbx_words.specs.declared.Complaint.{Complaint}
 use Rattle.qbx_words.specs.declared.Complaint.TheVariants.{Segments, Slots, NoTarget, TargetSegments, TargetSlots, NoOption, Budget}
-use Rattle.qbx_move_words.specs.declared.Geometry.{Geometry}
+use Rattle.qbx_move_words.specs.declared.AskedGeometry.{AskedGeometry}
 use Rattle.qbx_move_words.specs.declared.Move.{Move}
 
 unfoldable pub is_rebuild : List ℕ → Bool
@@ -30,14 +30,14 @@ with_budget k option steps =
     (Err NoOption))
 
 -- with as many steps as 64 bits can count
-abbrev pub plain : Bool → Geometry → Geometry → Move
+abbrev pub plain : Bool → AskedGeometry → AskedGeometry → Move
 plain r g h = record { salvages = r; source = g; target = h; budget = 18446744073709551615 }
 
-abbrev pub geometry : ℕ → ℕ → Geometry
+abbrev pub geometry : ℕ → ℕ → AskedGeometry
 geometry N B = record { segments = N; slots = B }
 
 -- the words after the target's name
-unfoldable pub onto : Bool → Geometry → List ℕ → List ℕ → List ℕ → List ℕ → MoveReading
+unfoldable pub onto : Bool → AskedGeometry → List ℕ → List ℕ → List ℕ → List ℕ → MoveReading
 onto r g n b option steps =
     as_number (number_of n) TargetSegments (λ N. as_number (number_of b) TargetSlots (λ B. with_budget (plain r g (geometry N B)) option steps))
 

@@ -9,9 +9,9 @@ ghost use Rattle.qbx_move_words.specs.Move.{names_target, with_budget, onto, mov
 use qbx_numbers::number;
 use qbx_words::{Complaint, is, is_missing};
 
-// N and B of an image.
+// N and B of an image, as they are asked for: no test has been made of them yet.
 #[derive(Clone, Copy)]
-pub struct Geometry {
+pub struct AskedGeometry {
     pub segments: u64,
     pub slots: u64,
 }
@@ -20,8 +20,8 @@ pub struct Geometry {
 #[derive(Clone, Copy)]
 pub struct Move {
     pub salvages: bool,
-    pub source: Geometry,
-    pub target: Geometry,
+    pub source: AskedGeometry,
+    pub target: AskedGeometry,
     pub budget: u64,
 }
 
@@ -52,7 +52,7 @@ fn with_budget(command: Move, option: &[u8], steps: &[u8]) -> Result<Move, Compl
 #[tactic(auto, unfolding(crate::specs::Move::onto, qbx_numbers::specs::Number::as_number))]
 fn onto(
     salvages: bool,
-    source: Geometry,
+    source: AskedGeometry,
     segments: &[u8],
     slots: &[u8],
     option: &[u8],
@@ -65,7 +65,7 @@ fn onto(
     let whole = Move {
         salvages,
         source,
-        target: Geometry { segments, slots },
+        target: AskedGeometry { segments, slots },
         budget: u64::MAX,
     };
     with_budget(whole, option, steps)
@@ -85,7 +85,7 @@ pub fn move_of(
 ) -> Result<Move, Complaint>
     ensures { result ≡ move_of segments.now slots.now verb.now target.now target_segments.now target_slots.now option.now steps.now }
 {
-    let source = Geometry {
+    let source = AskedGeometry {
         segments: number(segments).ok_or(Complaint::Segments)?,
         slots: number(slots).ok_or(Complaint::Slots)?,
     };
@@ -104,7 +104,7 @@ pub fn move_of(
 }
 
 // The bytes of an image of so many segments and slots, or 0 if there is none.
-pub fn size_of(geometry: Geometry) -> usize
+pub fn size_of(geometry: AskedGeometry) -> usize
     ensures { result ≡ size_of geometry.segments geometry.slots }
 {
     request::size_of(geometry.segments as usize, geometry.slots as usize)

@@ -12,48 +12,39 @@ use qbx_state::{Condition, Report, TopSeen};
 use scan::Surveyed;
 
 // The state, as the survey finds it.
-fn condition_of(image: &[u8], segments: usize, slots: usize) -> Condition
-    requires { right_size segments slots image.now ≡ true }
-    ensures { result ≡ condition_of (state_of segments slots (segments_of segments slots image.now)) }
+fn condition_of(image: &[u8], geometry: Geometry) -> Condition
+    requires { right_size geometry.segments geometry.slots image.now ≡ true }
+    ensures { result ≡ condition_of (state_of geometry.segments geometry.slots (segments_of geometry.segments geometry.slots image.now)) }
 {
-    let geometry = Geometry { segments, slots };
     let surveyed = scan::survey(image, geometry);
     match surveyed {
-        Surveyed::Clean {
-            first: _,
-            used: _,
-            live: _,
-            free: _,
-            compactions: _,
-        } => Condition::Clean,
-        Surveyed::TornSegment { top: _ } => Condition::UnfinishedA,
-        Surveyed::ErasePending { top: _, blank: _ } => Condition::UnfinishedB,
-        Surveyed::TornSlot { place: _ } => Condition::UnfinishedC,
-        Surveyed::OldSlot { place: _ } => Condition::UnfinishedD,
+        Surveyed::Clean { .. } => Condition::Clean,
+        Surveyed::TornSegment { .. } => Condition::UnfinishedA,
+        Surveyed::ErasePending { .. } => Condition::UnfinishedB,
+        Surveyed::TornSlot { .. } => Condition::UnfinishedC,
+        Surveyed::OldSlot { .. } => Condition::UnfinishedD,
         Surveyed::Damaged => Condition::Damaged,
     }
 }
 
 // The index of the segment after the top, whose erase is owed in an image unfinished by (b) and which is left aside; in others
 // none is, which is the index behind the last.
-fn left_aside(image: &[u8], segments: usize, slots: usize, condition: Condition) -> usize
-    requires { right_size segments slots image.now ≡ true }
-    ensures { result ≡ aside_in segments (segments_of segments slots image.now) condition }
+fn left_aside(image: &[u8], geometry: Geometry, condition: Condition) -> usize
+    requires { right_size geometry.segments geometry.slots image.now ≡ true }
+    ensures { result ≡ aside_in geometry.segments (segments_of geometry.segments geometry.slots image.now) condition }
 {
-    let geometry = Geometry { segments, slots };
     let Condition::UnfinishedB = condition else {
-        return segments;
+        return geometry.segments;
     };
     let seen = segments::see_headers(image, geometry);
-    seen.next % segments
+    seen.next % geometry.segments
 }
 
 // The header of the top, whose number is the one before the next.
-fn see_top(image: &[u8], segments: usize, slots: usize) -> TopSeen
-    requires { right_size segments slots image.now ≡ true }
-    ensures { result ≡ top_told segments (segments_of segments slots image.now) }
+fn see_top(image: &[u8], geometry: Geometry) -> TopSeen
+    requires { right_size geometry.segments geometry.slots image.now ≡ true }
+    ensures { result ≡ top_told geometry.segments (segments_of geometry.segments geometry.slots image.now) }
 {
-    let geometry = Geometry { segments, slots };
     let seen = segments::see_headers(image, geometry);
     if seen.next == 0 {
         return TopSeen::Missing;
@@ -70,14 +61,14 @@ fn see_top(image: &[u8], segments: usize, slots: usize) -> TopSeen
 }
 
 // What a check tells of an image of a right size.
-pub fn report_on(image: &[u8], segments: usize, slots: usize) -> Report
-    requires { right_size segments slots image.now ≡ true }
-    ensures { result ≡ report_of segments slots (segments_of segments slots image.now) }
+pub fn report_on(image: &[u8], geometry: Geometry) -> Report
+    requires { right_size geometry.segments geometry.slots image.now ≡ true }
+    ensures { result ≡ report_of geometry.segments geometry.slots (segments_of geometry.segments geometry.slots image.now) }
 {
-    let condition = condition_of(image, segments, slots);
-    let aside = left_aside(image, segments, slots, condition);
-    let census = take_census(image, segments, slots, aside);
-    let top = see_top(image, segments, slots);
+    let condition = condition_of(image, geometry);
+    let aside = left_aside(image, geometry, condition);
+    let census = take_census(image, geometry, aside);
+    let top = see_top(image, geometry);
     Report {
         condition,
         segments: census.segments,

@@ -3,7 +3,7 @@ use Rattle.std.specs.Prelude.{ℕ, List}
 use Rattle.model.specs.Chip.{Image}
 use Rattle.model.specs.Answers.{Outcome, outcome_of, format, put, delete, recover}
 use Rattle.qbx_verbs.specs.declared.Verb.{Verb}
-use Rattle.qbx_verbs.specs.declared.Verb.TheVariants.{Format, Put, Get, Delete, Recover, Check, Account, Map, Salvage, Unknown}
+use Rattle.qbx_verbs.specs.declared.Verb.TheVariants.{Format, Put, Get, Delete, Recover, Check, Account, Map, Salvage}
 use Rattle.qbx_words.specs.declared.Command.{Command}
 
 abbrev pub untouched : Image → Outcome
@@ -20,4 +20,3 @@ performed_by Check k c s = untouched s
 performed_by Account k c s = untouched s
 performed_by Map k c s = untouched s
 performed_by Salvage k c s = untouched s
-performed_by Unknown k c s = untouched s

@@ -20,6 +20,7 @@ fn idle() -> Performed
 }
 
 // A request that writes. A verb that does not write does nothing.
+#[tactic(auto, unfolding(crate::specs::Requests::performed_by, model::specs::Answers::performed))]
 pub fn perform(image: &mut [u8], command: Command, contents: &[u8]) -> Performed
     ensures { performed result image.new ≡ performed_by command.verb command contents.now image.old }
 {
@@ -27,17 +28,11 @@ pub fn perform(image: &mut [u8], command: Command, contents: &[u8]) -> Performed
     let slots = command.slots as usize;
     let budget = command.budget;
     let block = command.block;
-    let verb = command.verb;
-    match verb {
+    match command.verb {
         Verb::Format => store::format(image, segments, slots, budget),
         Verb::Put => store::put(image, segments, slots, block, contents, budget),
         Verb::Delete => store::delete(image, segments, slots, block, budget),
         Verb::Recover => store::recover(image, segments, slots, budget),
-        Verb::Get => idle(),
-        Verb::Check => idle(),
-        Verb::Account => idle(),
-        Verb::Map => idle(),
-        Verb::Salvage => idle(),
-        Verb::Unknown => idle(),
+        Verb::Get | Verb::Check | Verb::Account | Verb::Map | Verb::Salvage => idle(),
     }
 }

@@ -4,12 +4,13 @@
 ghost use Rattle.std.specs.Prelude.{◌≡◌, true};
 ghost use Rattle.qbx_rooms.specs.Rooms.{room_of, smallest_for, need_of, move_need_of, lack_of};
 
-// What the process has: the KiB of stack that it may use, and the descriptors for what is said and for what is wrong.
+use qbx_out::Console;
+
+// What the process has: the KiB of stack that it may use, and where it speaks.
 #[derive(Clone, Copy)]
 pub struct Process {
     pub allowed: u64,
-    pub out: i32,
-    pub err: i32,
+    pub console: Console,
 }
 
 // A buffer, by the images that it holds.

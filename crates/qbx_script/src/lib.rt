@@ -3,6 +3,7 @@
 // the same with share-get or share-delete.
 #![tactic(auto)]
 
+use qbx_out::{Console, Program};
 use qbx_script_words::word;
 use qbx_system::{STDOUT_FILENO, System};
 
@@ -26,8 +27,7 @@ fn carry(system: &mut System, line: &[u8]) {
                 word(line, 0),
                 target,
                 command,
-                STDOUT_FILENO,
-                STDOUT_FILENO,
+                Console::joined(Program::Qbx),
             );
         }
         Err(complaint) => qbx_out::complain(complaint, STDOUT_FILENO),
@@ -36,7 +36,7 @@ fn carry(system: &mut System, line: &[u8]) {
 
 // The words of a tenant's command, and what stands behind '<'.
 fn share(system: &mut System, line: &[u8], contents: &[u8]) {
-    if word(line, 7).len() > 0 {
+    if !word(line, 7).is_empty() {
         io::write_all(
             STDOUT_FILENO,
             b"qbx: nothing may follow BLOCK here, as --budget: a tenant is told no steps\n",
@@ -60,8 +60,7 @@ fn share(system: &mut System, line: &[u8], contents: &[u8]) {
                 shares,
                 command,
                 contents,
-                STDOUT_FILENO,
-                STDOUT_FILENO,
+                Console::joined(Program::Qbx),
             );
         }
         Err(complaint) => qbx_out::complain(complaint, STDOUT_FILENO),
@@ -93,8 +92,7 @@ fn obey(system: &mut System, line: &[u8], contents: &[u8]) {
                 word(line, 0),
                 command,
                 contents,
-                STDOUT_FILENO,
-                STDOUT_FILENO,
+                Console::joined(Program::Qbx),
             );
         }
         Err(complaint) => qbx_out::complain(complaint, STDOUT_FILENO),

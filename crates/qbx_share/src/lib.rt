@@ -6,7 +6,7 @@ ghost use Rattle.std.specs.Prelude.{◌<◌, ◌≤◌, length, IfSome};
 ghost use Rattle.request.specs.Request.{size_of};
 
 use model::Answer;
-use qbx_out::{fail, print};
+use qbx_out::{Console, fail, give, print, save};
 use qbx_same::Clash;
 use qbx_share_file::WrongLine;
 use qbx_share_words::{ShareCommand, ShareVerb};
@@ -34,32 +34,6 @@ fn tell(fd: i32, answer: Answer, command: ShareCommand, there: u64) {
     print(fd, qbx_share_says::say_shared(answer));
 }
 
-// Has the image in its file, if it was changed. Whether it is there is the system's word, of which nothing is proved.
-fn settle(system: &mut System, image: &[u8], path: &[u8], answer: Answer, err: i32) -> bool {
-    if let Answer::Done = answer {
-        if !qbx_files::replace(system, path, image) {
-            fail(system, err, b"write ", path);
-            return false;
-        }
-    }
-    true
-}
-
-// The contents alone go out; whether they did is the system's word too. Where the answer goes there too, a line end keeps them
-// apart.
-fn give(system: &mut System, contents: &[u8], out: i32, err: i32) -> bool {
-    if !system.write_all(out, contents) {
-        fail(system, err, b"write ", b"standard output");
-        return false;
-    }
-    if out == err {
-        if contents.len() > 0 {
-            io::write_all(out, b"\n");
-        }
-    }
-    true
-}
-
 // A command on the image's bytes. What was done is in the file, and what was read is out, before it is said.
 fn act(
     system: &mut System,
@@ -69,27 +43,22 @@ fn act(
     command: ShareCommand,
     contents: &[u8],
     there: u64,
-    out: i32,
-    err: i32,
+    console: Console,
 ) {
     let mut given = [0u8; 248];
     let printed = qbx_share_request::perform(image, shares, command, contents, &mut given);
     let answer = printed.answer;
-    let verb = command.verb;
-    if let ShareVerb::Get = verb {
-        if give(
-            system,
-            qbx_images::piece(&given, 0, printed.length),
-            out,
-            err,
-        ) {
-            tell(err, answer, command, there);
+    if let ShareVerb::Get = command.verb {
+        let read = qbx_images::piece(&given, 0, printed.length);
+        if give(system, console, read) {
+            tell(console.err, answer, command, there);
         }
         return;
     }
-    if settle(system, &image[..], path, answer, err) {
-        tell(out, answer, command, there);
+    if matches!(answer, Answer::Done) && !save(system, console, path, &image[..]) {
+        return;
     }
+    tell(console.out, answer, command, there);
 }
 
 // A command on the image's file, with the shares.
@@ -100,14 +69,13 @@ fn work(
     shares: &[u32],
     command: ShareCommand,
     contents: &[u8],
-    out: i32,
-    err: i32,
+    console: Console,
 )
     requires { size_of command.segments command.slots < length image.old }
 {
     let size = request::size_of(command.segments as usize, command.slots as usize);
     let Some(file) = qbx_images::present(system, image, path, size, false) else {
-        fail(system, err, b"read ", path);
+        fail(system, console, b"read ", path);
         return;
     };
     let n = file.count;
@@ -119,8 +87,7 @@ fn work(
         command,
         contents,
         file.there,
-        out,
-        err,
+        console,
     );
 }
 
@@ -140,19 +107,18 @@ fn serve(
     shares_path: &[u8],
     command: ShareCommand,
     contents: &[u8],
-    out: i32,
-    err: i32,
+    console: Console,
 )
     requires { size_of command.segments command.slots < length image.old }
 {
     // a byte more than it may have, so that a longer file is seen to be one
     let mut text = [0u8; MOST_TEXT + 1];
     let Some(n) = text_of(system, shares_path, &mut text) else {
-        fail(system, err, b"read ", shares_path);
+        fail(system, console, b"read ", shares_path);
         return;
     };
     if n > MOST_TEXT {
-        io::write_all(err, b"qbx: SHARES is longer than 4096 bytes\n");
+        io::write_all(console.err, b"qbx: SHARES is longer than 4096 bytes\n");
         return;
     }
     let mut shares = [0u32; NUMBERS];
@@ -165,10 +131,9 @@ fn serve(
             &shares[..count],
             command,
             contents,
-            out,
-            err,
+            console,
         ),
-        Err(WrongLine(line)) => print(err, qbx_share_says::say_wrong_line(line)),
+        Err(WrongLine(line)) => print(console.err, qbx_share_says::say_wrong_line(line)),
     }
 }
 
@@ -182,27 +147,17 @@ pub fn obey(
     shares_path: &[u8],
     command: ShareCommand,
     contents: &[u8],
-    out: i32,
-    err: i32,
+    console: Console,
 )
     requires { size_of command.segments command.slots < length image.old }
 {
     let clash = qbx_same::clash_of(system, shares_path, path);
     if let Clash::SourceBeside = clash {
         io::write_all(
-            err,
+            console.err,
             b"qbx: SHARES is the file that is written beside IMAGE: name another\n",
         );
         return;
     }
-    serve(
-        system,
-        image,
-        path,
-        shares_path,
-        command,
-        contents,
-        out,
-        err,
-    );
+    serve(system, image, path, shares_path, command, contents, console);
 }

@@ -3,6 +3,7 @@
 
 ghost use Rattle.std.specs.Prelude.{◌≡◌, true};
 
+use qbx_out::Console;
 use qbx_rooms::{Buffer, Process};
 use qbx_share_words::ShareCommand;
 use qbx_system::System;
@@ -15,17 +16,16 @@ pub fn obey(
     shares: &[u8],
     command: ShareCommand,
     contents: &[u8],
-    out: i32,
-    err: i32,
+    console: Console,
 ) -> bool
     ensures { result ≡ true }
 {
     let allowed = qbx_stack::allowed(system) / 1024;
-    let process = Process { allowed, out, err };
+    let process = Process { allowed, console };
     let size = request::size_of(command.segments as usize, command.slots as usize);
     let buffer = qbx_rooms::smallest_for(size);
     if let Some(needed) = qbx_rooms::lacking(buffer, false, allowed) {
-        qbx_out::lack_stack(size, needed, allowed, err);
+        qbx_out::lack_stack(size, needed, allowed, console.err);
         return true;
     }
     match buffer {

@@ -32,8 +32,7 @@ pub fn obey<const BYTES: usize>(
         shares,
         command,
         contents,
-        process.out,
-        process.err,
+        process.console,
     );
     true
 }

@@ -21,8 +21,7 @@ pub fn perform(
     let slots = command.slots as usize;
     let tenant = command.tenant;
     let block = command.block;
-    let verb = command.verb;
-    match verb {
+    match command.verb {
         ShareVerb::Put => {
             let answer = sharing::put(image, segments, slots, shares, tenant, block, contents);
             Printed { answer, length: 0 }

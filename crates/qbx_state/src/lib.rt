@@ -20,6 +20,7 @@ pub enum Condition {
 
 // The header of the top, if a segment is in use: its version, and in version 2 the tally of recoveries' erases, and whether
 // no bit is left to count one more.
+// Kept: its three cases are as plain as they can be; an `Option` would hold an enum of the two versions, and each match name both.
 #[derive(Clone, Copy)]
 pub enum TopSeen {
     Missing,
@@ -90,10 +91,8 @@ fn add_top(line: Line, top: TopSeen) -> Line
 pub fn say_report(report: Report) -> Line
     ensures { (said result ≡ report_text report) × (result.count ≤ most_line) }
 {
-    let condition = report.condition;
-    let line = say_condition(condition);
+    let line = say_condition(report.condition);
     let used = add_count(line, b": segments in use ", report.segments);
     let told = add_slots(used, report.live, report.dead, report.cut, report.empty);
-    let top = report.top;
-    add(add_top(told, top), b"\n")
+    add(add_top(told, report.top), b"\n")
 }

@@ -6,7 +6,7 @@ use Rattle.account_text.specs.Account.{account_text}
 use Rattle.account_text.specs.Map.{map_text}
 use Rattle.salvage.specs.Salvage.{salvage_outcome}
 use Rattle.qbx_verbs.specs.declared.Verb.{Verb}
-use Rattle.qbx_verbs.specs.declared.Verb.TheVariants.{Format, Put, Get, Delete, Recover, Check, Account, Map, Salvage, Unknown}
+use Rattle.qbx_verbs.specs.declared.Verb.TheVariants.{Format, Put, Get, Delete, Recover, Check, Account, Map, Salvage}
 use Rattle.qbx_words.specs.declared.Command.{Command}
 
 -- what a command prints of an image, in a buffer; of most verbs it is nothing
@@ -20,4 +20,3 @@ printed_by Get k s buffer = print_in [] buffer
 printed_by Delete k s buffer = print_in [] buffer
 printed_by Recover k s buffer = print_in [] buffer
 printed_by Check k s buffer = print_in [] buffer
-printed_by Unknown k s buffer = print_in [] buffer

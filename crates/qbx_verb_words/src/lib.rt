@@ -14,36 +14,36 @@ pub fn is(word: &[u8], name: &[u8]) -> bool
     word == name
 }
 
-// The verb that a word is.
-pub fn verb_of(word: &[u8]) -> Verb
+// The verb that a word is, if it is one.
+pub fn verb_of(word: &[u8]) -> Option<Verb>
     ensures { result ≡ verb_of word.now }
 {
     if is(word, b"format") {
-        return Verb::Format;
+        return Some(Verb::Format);
     }
     if is(word, b"put") {
-        return Verb::Put;
+        return Some(Verb::Put);
     }
     if is(word, b"get") {
-        return Verb::Get;
+        return Some(Verb::Get);
     }
     if is(word, b"delete") {
-        return Verb::Delete;
+        return Some(Verb::Delete);
     }
     if is(word, b"recover") {
-        return Verb::Recover;
+        return Some(Verb::Recover);
     }
     if is(word, b"check") {
-        return Verb::Check;
+        return Some(Verb::Check);
     }
     if is(word, b"account") {
-        return Verb::Account;
+        return Some(Verb::Account);
     }
     if is(word, b"map") {
-        return Verb::Map;
+        return Some(Verb::Map);
     }
     if is(word, b"salvage") {
-        return Verb::Salvage;
+        return Some(Verb::Salvage);
     }
-    Verb::Unknown
+    None
 }

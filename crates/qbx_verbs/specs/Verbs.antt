@@ -1,19 +1,7 @@
--- What each verb is for: whether it is one, whether it names a block, whether it writes, and whether it prints.
+-- What each verb is for: whether it names a block, whether it writes, and whether it prints.
 use Rattle.std.specs.Prelude.{Bool, true, false}
 use Rattle.qbx_verbs.specs.declared.Verb.{Verb}
-use Rattle.qbx_verbs.specs.declared.Verb.TheVariants.{Format, Put, Get, Delete, Recover, Check, Account, Map, Salvage, Unknown}
-
-unfoldable pub known : Verb → Bool
-known Format = true
-known Put = true
-known Get = true
-known Delete = true
-known Recover = true
-known Check = true
-known Account = true
-known Map = true
-known Salvage = true
-known Unknown = false
+use Rattle.qbx_verbs.specs.declared.Verb.TheVariants.{Format, Put, Get, Delete, Recover, Check, Account, Map, Salvage}
 
 unfoldable pub names_block : Verb → Bool
 names_block Format = false
@@ -25,7 +13,6 @@ names_block Check = false
 names_block Account = false
 names_block Map = false
 names_block Salvage = false
-names_block Unknown = false
 
 unfoldable pub writes : Verb → Bool
 writes Format = true
@@ -37,7 +24,6 @@ writes Check = false
 writes Account = false
 writes Map = false
 writes Salvage = false
-writes Unknown = false
 
 -- whether what a verb says is a text of many lines
 unfoldable pub prints : Verb → Bool
@@ -50,4 +36,3 @@ prints Check = false
 prints Account = true
 prints Map = true
 prints Salvage = true
-prints Unknown = false

@@ -1,15 +1,8 @@
-// Whether a verb is one, whether it names a block, and whether it writes.
+// Whether a verb names a block, and whether it writes.
 ghost use Rattle.std.specs.Prelude.{◌≡◌};
-ghost use Rattle.qbx_verbs.specs.Verbs.{known, names_block, writes};
+ghost use Rattle.qbx_verbs.specs.Verbs.{names_block, writes};
 
 use crate::Verb;
-
-#[tactic(auto, unfolding(crate::specs::Verbs::known))]
-pub fn known(verb: Verb) -> bool
-    ensures { result ≡ known verb }
-{
-    !matches!(verb, Verb::Unknown)
-}
 
 #[tactic(auto, unfolding(crate::specs::Verbs::names_block))]
 pub fn names_block(verb: Verb) -> bool

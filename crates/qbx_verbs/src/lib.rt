@@ -6,7 +6,7 @@ mod kinds;
 ghost use Rattle.std.specs.Prelude.{◌≡◌};
 ghost use Rattle.qbx_verbs.specs.Verbs.{prints};
 
-pub use kinds::{known, names_block, writes};
+pub use kinds::{names_block, writes};
 
 #[derive(Clone, Copy)]
 pub enum Verb {
@@ -19,7 +19,6 @@ pub enum Verb {
     Account,
     Map,
     Salvage,
-    Unknown,
 }
 
 // Whether what a verb says is a text of many lines.

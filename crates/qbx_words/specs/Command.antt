@@ -1,10 +1,10 @@
 -- A command line's words, read: N B VERB [BLOCK] [--budget STEPS]. A word that is missing is empty.
-use Rattle.std.specs.Prelude.{ℕ, Bool, true, false, cond, ◌&&◌, List, [], ◌∷◌, Result, Ok, Err}
+use Rattle.std.specs.Prelude.{ℕ, Bool, true, false, cond, ◌&&◌, List, [], ◌∷◌, Option, Some, None, Result, Ok, Err}
 use Rattle.model.specs.Lists.{same}
 use Rattle.text.specs.Text.{text}
 use Rattle.qbx_numbers.specs.Number.{number_of, number16_of, as_number}
 use Rattle.qbx_verbs.specs.declared.Verb.{Verb}
-use Rattle.qbx_verbs.specs.Verbs.{known, names_block, writes}
+use Rattle.qbx_verbs.specs.Verbs.{names_block, writes}
 use Rattle.qbx_verb_words.specs.Verb.{verb_of}
 use Rattle.qbx_words.specs.declared.Complaint.{Complaint}
 use Rattle.qbx_words.specs.declared.Complaint.TheVariants.{Segments, Slots, NoVerb, Block, NoOption, Budget}
@@ -46,8 +46,13 @@ after_verb k first second third =
 abbrev pub plain : ℕ → ℕ → Verb → Command
 plain N B v = record { segments = N; slots = B; verb = v; block = record { 0 = 0 }; budget = 18446744073709551615 }
 
+-- a verb: what follows from it, or that there is none
+unfoldable pub as_verb : Option Verb → (Verb → Reading) → Reading
+as_verb (Some v) go = go v
+as_verb None go = Err NoVerb
+
 -- the words after the image's name
 unfoldable pub command_of : List ℕ → List ℕ → List ℕ → List ℕ → List ℕ → List ℕ → Reading
 command_of n b v first second third =
     as_number (number_of n) Segments (λ N. as_number (number_of b) Slots (λ B.
-    cond (known (verb_of v)) (after_verb (plain N B (verb_of v)) first second third) (Err NoVerb)))
+    as_verb (verb_of v) (λ w. after_verb (plain N B w) first second third)))

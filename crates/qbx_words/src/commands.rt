@@ -6,7 +6,7 @@ use crate::{Command, Complaint};
 use model::BlockNumber;
 use qbx_numbers::{number, number16};
 use qbx_verb_words::{is, verb_of};
-use qbx_verbs::{known, names_block, writes};
+use qbx_verbs::{names_block, writes};
 
 // Whether a word is missing: it is empty then.
 pub fn is_missing(word: &[u8]) -> bool
@@ -64,7 +64,7 @@ fn after_verb(
 }
 
 // The words after the image's name; those that are missing are empty.
-#[tactic(auto, unfolding(crate::specs::Command::command_of, qbx_numbers::specs::Number::as_number))]
+#[tactic(auto, unfolding(crate::specs::Command::command_of, crate::specs::Command::as_verb, qbx_numbers::specs::Number::as_number))]
 pub fn command_of(
     segments: &[u8],
     slots: &[u8],
@@ -77,10 +77,7 @@ pub fn command_of(
 {
     let segments = number(segments).ok_or(Complaint::Segments)?;
     let slots = number(slots).ok_or(Complaint::Slots)?;
-    let verb = verb_of(verb);
-    if !known(verb) {
-        return Err(Complaint::NoVerb);
-    }
+    let verb = verb_of(verb).ok_or(Complaint::NoVerb)?;
     let plain = Command {
         segments,
         slots,

@@ -6,9 +6,9 @@ ghost use Rattle.std.specs.Prelude.{◌≡◌, false, ◌<◌, ◌≤◌, length
 ghost use Rattle.request.specs.Request.{size_of};
 ghost use Rattle.qbx_verbs.specs.Verbs.{prints};
 
-use model::{Answer, Performed};
+use model::{Answer, Geometry, Performed};
 use qbx_images::ImageFile;
-use qbx_out::{fail, print};
+use qbx_out::{Console, fail, give, print, save, send};
 use qbx_system::System;
 use qbx_verbs::Verb;
 use qbx_words::Command;
@@ -30,8 +30,7 @@ fn present(
 
 // Says an answer and the steps done; beside a wrong size what N and B ask for, and the bytes that are there.
 fn tell(fd: i32, performed: Performed, command: Command, there: u64) {
-    let answer = performed.answer;
-    if let Answer::Size = answer {
+    if let Answer::Size = performed.answer {
         print(
             fd,
             qbx_says::say_size(command.segments as usize, command.slots as usize, there),
@@ -49,55 +48,44 @@ fn change(
     command: Command,
     contents: &[u8],
     there: u64,
-    out: i32,
-    err: i32,
+    console: Console,
 ) {
     let performed = qbx_requests::perform(image, command, contents);
-    if performed.steps > 0 {
-        if !qbx_files::replace(system, path, image) {
-            fail(system, err, b"write ", path);
-            return;
-        }
+    if performed.steps > 0 && !save(system, console, path, image) {
+        return;
     }
-    tell(out, performed, command, there);
+    tell(console.out, performed, command, there);
 }
 
-// The contents alone go out. Where the answer goes there too, a line end keeps them apart.
-fn get(system: &mut System, image: &[u8], command: Command, there: u64, out: i32, err: i32) {
-    let block = command.block;
+// The contents alone go out, and the answer with what is wrong.
+fn get(system: &mut System, image: &[u8], command: Command, there: u64, console: Console) {
     let found = store::read(
         image,
         command.segments as usize,
         command.slots as usize,
-        block,
+        command.block,
     );
-    let answer = found.answer;
-    let at = found.offset;
-    let count = found.length;
-    if !system.write_all(out, qbx_images::piece(image, at, count)) {
-        fail(system, err, b"write ", b"standard output");
-        return;
+    let contents = qbx_images::piece(image, found.offset, found.length);
+    if give(system, console, contents) {
+        let answer = found.answer;
+        tell(console.err, Performed { answer, steps: 0 }, command, there);
     }
-    if out == err {
-        if count > 0 {
-            io::write_all(out, b"\n");
-        }
-    }
-    tell(err, Performed { answer, steps: 0 }, command, there);
 }
 
 // The state of the image, or that it has not the right size.
 fn check(image: &[u8], command: Command, there: u64, out: i32) {
-    let segments = command.segments as usize;
-    let slots = command.slots as usize;
-    if !request::right_size(image.len(), segments, slots) {
+    let geometry = Geometry {
+        segments: command.segments as usize,
+        slots: command.slots as usize,
+    };
+    if !request::right_size(image.len(), geometry.segments, geometry.slots) {
         let answer = Answer::Size;
         tell(out, Performed { answer, steps: 0 }, command, there);
         return;
     }
     print(
         out,
-        qbx_state::say_report(qbx_report::report_on(image, segments, slots)),
+        qbx_state::say_report(qbx_report::report_on(image, geometry)),
     );
 }
 
@@ -109,21 +97,18 @@ fn act(
     command: Command,
     contents: &[u8],
     there: u64,
-    out: i32,
-    err: i32,
+    console: Console,
 ) {
-    let verb = command.verb;
-    match verb {
-        Verb::Get => get(system, &image[..], command, there, out, err),
-        Verb::Check => check(&image[..], command, there, out),
+    match command.verb {
+        Verb::Get => get(system, &image[..], command, there, console),
+        Verb::Check => check(&image[..], command, there, console.out),
         Verb::Format
         | Verb::Put
         | Verb::Delete
         | Verb::Recover
         | Verb::Account
         | Verb::Map
-        | Verb::Salvage
-        | Verb::Unknown => change(system, image, path, command, contents, there, out, err),
+        | Verb::Salvage => change(system, image, path, command, contents, there, console),
     }
 }
 
@@ -135,13 +120,12 @@ pub fn obey(
     path: &[u8],
     command: Command,
     contents: &[u8],
-    out: i32,
-    err: i32,
+    console: Console,
 )
     requires { (size_of command.segments command.slots < length image.old) × (prints command.verb ≡ false) }
 {
     let Some(file) = present(system, image, path, command) else {
-        fail(system, err, b"read ", path);
+        fail(system, console, b"read ", path);
         return;
     };
     let n = file.count;
@@ -152,8 +136,7 @@ pub fn obey(
         command,
         contents,
         file.there,
-        out,
-        err,
+        console,
     );
 }
 
@@ -165,28 +148,30 @@ pub fn show(
     text: &mut [u8],
     path: &[u8],
     command: Command,
-    out: i32,
-    err: i32,
+    console: Console,
 )
     requires { size_of command.segments command.slots < length image.old }
 {
     let Some(file) = present(system, image, path, command) else {
-        fail(system, err, b"read ", path);
+        fail(system, console, b"read ", path);
         return;
     };
     let n = file.count;
     let printed = qbx_texts::describe(&image[..n], command, text);
     let answer = printed.answer;
     if let Answer::ShortBuffer = answer {
-        io::write_all(err, b"qbx: the text is longer than its buffer\n");
+        io::write_all(console.err, b"qbx: the text is longer than its buffer\n");
         return;
     }
     if let Answer::Size = answer {
-        tell(err, Performed { answer, steps: 0 }, command, file.there);
+        tell(
+            console.err,
+            Performed { answer, steps: 0 },
+            command,
+            file.there,
+        );
         return;
     }
     let length = printed.length;
-    if !system.write_all(out, &text[..length]) {
-        fail(system, err, b"write ", b"standard output");
-    }
+    send(system, console, &text[..length]);
 }

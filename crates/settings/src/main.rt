@@ -2,6 +2,7 @@
 // format (request #109), whose image is a file.
 #![tactic(auto)]
 
+use qbx_out::{Console, Program};
 use qbx_system::{STDERR_FILENO, STDOUT_FILENO, System};
 use settings_words::{Command, Verb};
 
@@ -55,14 +56,12 @@ fn write(system: &mut System, path: &[u8], layout: &[u8], command: Command) {
         layout,
         command,
         &contents[..n],
-        STDOUT_FILENO,
-        STDERR_FILENO,
+        Console::apart(Program::Settings),
     );
 }
 
 fn obey(system: &mut System, path: &[u8], layout: &[u8], command: Command) {
-    let verb = command.verb;
-    if let Verb::Write = verb {
+    if let Verb::Write = command.verb {
         write(system, path, layout, command);
     } else {
         settings_work::obey(
@@ -71,8 +70,7 @@ fn obey(system: &mut System, path: &[u8], layout: &[u8], command: Command) {
             layout,
             command,
             b"",
-            STDOUT_FILENO,
-            STDERR_FILENO,
+            Console::apart(Program::Settings),
         );
     }
 }

@@ -6,6 +6,7 @@ use mathlib.Core.List.{List, [], ◌++◌}
 use native.Mathlib.Omega.{arith}
 use lib.ListN.{length}
 use borrow.Author.Tests.{eqb-true, eq-eqb, ne_eqb}
+use Rattle.std.specs.Prelude.{Result, Ok, Err}
 use Rattle.model.specs.Laws.Lists.{and_left, and_right}
 use Rattle.model.specs.Chip.{Image}
 use Rattle.model.specs.Answers.{first_of}
@@ -13,16 +14,15 @@ use Rattle.text.specs.Text.{text}
 use Rattle.text.specs.Buffer.{Wrote}
 use Rattle.text.proofs.Laws.{◌then◌, wrote_none}
 use Rattle.partitions.specs.declared.Reply.{Reply}
-use Rattle.partitions.specs.declared.Reply.TheVariants.{Done, Partitions, Layout, Statuses}
+use Rattle.partitions.specs.declared.Reply.TheVariants.{Partitions, Layout, Statuses}
 use Rattle.partitions.specs.Layout.{layout_ok, items_of}
 use Rattle.partitions.specs.Partitions.{partitions_ok, image_ok, partition_size, status_of, Newest, nothing, newest, no_run, newest_in, newest_of}
 use Rattle.partitions.specs.Answers.{number_of, is_no_run, refusals, read_outcome}
 use Rattle.partitions.proofs.Laws.{right_layout, used_some}
 use Rattle.partition_store.proofs.Asking.{partitions_some, board_whole, unit_inside, newest_below}
 use Rattle.settings_item_lines.specs.ItemLines.{item_lines, most_layout}
-use Rattle.settings_list.specs.declared.Listed.{Listed}
 use Rattle.settings_list.specs.BoardList.{partition_line, newest_line, ListOutcome, list_text, list_outcome, list_on}
-use Rattle.settings_list.specs.Listing.{most_list, Right, Lists}
+use Rattle.settings_list.specs.Listing.{most_list, Right, code_in, length_in, Lists}
 
 -- ---- what a right board knows
 
@@ -46,8 +46,14 @@ module _ (P : ℕ) (layout : List ℕ) (s : Image) (r : Right P layout s) where
 
 -- ---- what comes back
 
-pub refused_lists : (a : Reply) (r : Listed) (start : List ℕ) {o : ListOutcome} → r ≡ record { answer = a; length = 0 } → o ≡ record { code = number_of a; text = [] } → Lists o r start start
+pub refused_lists : (a : Reply) (r : Result ℕ Reply) (start : List ℕ) {o : ListOutcome} → r ≡ Err a → o ≡ record { code = number_of a; text = [] } → Lists o r start start
+unfolding code_in length_in
 refused_lists a r start e f = rw (e, f) (record { answers = refl; prints = wrote_none start 0; within = omega arith })
+
+-- one that is not refused is no longer than every list
+pub listed_within : (n : ℕ) {o : ListOutcome} {r : Result ℕ Reply} {start buffer : List ℕ} → Lists o r start buffer → r ≡ Ok n → n ≤ most_list
+unfolding length_in
+listed_within n l e = let k = l.within in rw e at k
 
 module _ (P : ℕ) (layout : List ℕ) (s : Image) where
   refused_as : (a : Reply) → (number_of a ≡ 0 → ⊥) → first_of (refusals P layout s true) ≡ number_of a → list_outcome P layout s ≡ record { code = number_of a; text = [] }
@@ -85,26 +91,25 @@ module _ (P : ℕ) (layout : List ℕ) (s : Image) where
       on (newest p) e = rw (right_image, table, ← e)
       on no_run e = rw (right_image, table, ← e)
 
-      pub right_lists : {r : Listed} {start buffer : List ℕ} → Lists (list_on P layout s (newest_in P (length s / P) s)) r start buffer → Lists (list_outcome P layout s) r start buffer
+      pub right_lists : {r : Result ℕ Reply} {start buffer : List ℕ} → Lists (list_on P layout s (newest_in P (length s / P) s)) r start buffer → Lists (list_outcome P layout s) r start buffer
       unfolding newest_of partition_size
       right_lists x = rw (on (newest_in P (length s / P) s) refl) x
 
   -- by the newest partition, behind its line
-  pub lists_none : (a : Listed) (start : List ℕ) (n : Newest) → n ≡ no_run → a ≡ record { answer = Statuses; length = 0 } → Lists (list_on P layout s n) a start start
+  pub lists_none : (a : Result ℕ Reply) (start : List ℕ) (n : Newest) → n ≡ no_run → a ≡ Err Statuses → Lists (list_on P layout s n) a start start
   unfolding list_on number_of
   lists_none a start n e f = refused_lists Statuses a start f (rw e)
 
-  done_lists : (r : Listed) (start buffer line : List ℕ) (n : Newest) → list_on P layout s n ≡ record { code = 0; text = line ++ item_lines (read_outcome P layout s) s layout }
-      → Wrote (line ++ item_lines (read_outcome P layout s) s layout) start 0 buffer r.length → r ≡ record { answer = Done; length = r.length } → r.length ≤ most_list → Lists (list_on P layout s n) r start buffer
-  unfolding number_of
-  done_lists r start buffer line n e w d h = rw e (record { answers = ap (λ (x : Listed). number_of x.answer) d; prints = w; within = h })
+  done_lists : (r : ℕ) (start buffer line : List ℕ) (n : Newest) → list_on P layout s n ≡ record { code = 0; text = line ++ item_lines (read_outcome P layout s) s layout }
+      → Wrote (line ++ item_lines (read_outcome P layout s) s layout) start 0 buffer r → r ≤ most_list → Lists (list_on P layout s n) (Ok r) start buffer
+  unfolding code_in length_in
+  done_lists r start buffer line n e w h = rw e (record { answers = refl; prints = w; within = h })
 
-  module _ (r : Listed) {start mid buffer : List ℕ} {at : ℕ} (n : Newest) (items : Wrote (item_lines (read_outcome P layout s) s layout) mid at buffer r.length)
-      (done : r ≡ record { answer = Done; length = r.length }) (short : r.length ≤ most_list) where
-    pub lists_nothing : n ≡ nothing → Wrote (text "nothing written\n") start 0 mid at → Lists (list_on P layout s n) r start buffer
+  module _ (r : ℕ) {start mid buffer : List ℕ} {at : ℕ} (n : Newest) (items : Wrote (item_lines (read_outcome P layout s) s layout) mid at buffer r) (short : r ≤ most_list) where
+    pub lists_nothing : n ≡ nothing → Wrote (text "nothing written\n") start 0 mid at → Lists (list_on P layout s n) (Ok r) start buffer
     unfolding list_on list_text newest_line
-    lists_nothing e w = done_lists r start buffer (text "nothing written\n") n (rw e) (◌then◌ w items) done short
+    lists_nothing e w = done_lists r start buffer (text "nothing written\n") n (rw e) (◌then◌ w items) short
 
-    pub lists_newest : (p status : ℕ) → n ≡ newest p → status ≡ status_of (length s / P) s p → Wrote (partition_line p status) start 0 mid at → Lists (list_on P layout s n) r start buffer
+    pub lists_newest : (p status : ℕ) → n ≡ newest p → status ≡ status_of (length s / P) s p → Wrote (partition_line p status) start 0 mid at → Lists (list_on P layout s n) (Ok r) start buffer
     unfolding list_on list_text newest_line partition_size
-    lists_newest p status e f w = done_lists r start buffer (partition_line p status) n (rw (e, f)) (◌then◌ w items) done short
+    lists_newest p status e f w = done_lists r start buffer (partition_line p status) n (rw (e, f)) (◌then◌ w items) short

@@ -18,13 +18,6 @@ use settings_item_lines::{add_line, item_lines};
 // The most bytes of a list; `most_list` in specs/.
 pub const MOST_LIST: usize = 180224;
 
-// An answer, and the length of the text.
-#[derive(Clone, Copy)]
-pub struct Listed {
-    pub answer: Reply,
-    pub length: usize,
-}
-
 // The line of the newest partition.
 fn partition_line(partition: usize, status: u8) -> Line
     ensures { (said result ≡ partition_line partition status) × (result.count ≤ 60) }
@@ -34,27 +27,22 @@ fn partition_line(partition: usize, status: u8) -> Line
     add(told, b"\n")
 }
 
-// A list that is refused has no text.
-fn refused(answer: Reply) -> Listed
-    ensures { result ≡ record { answer = answer; length = 0 } }
-{
-    Listed { answer, length: 0 }
-}
-
 // The lines of the items behind a first line.
-fn list_items(text: &mut [u8], at: usize, image: &[u8], partitions: usize, layout: &[u8]) -> Listed
+fn list_items(text: &mut [u8], at: usize, image: &[u8], partitions: usize, layout: &[u8]) -> usize
     requires { (at ≤ 1000) × (length layout.now ≤ most_layout) }
-    ensures { Wrote (item_lines (read_outcome partitions layout.now image.now) image.now layout.now) text.old at text.new result.length × (result ≡ record { answer = Reply.Done; length = result.length }) × (result.length ≤ most_list) }
+    ensures { Wrote (item_lines (read_outcome partitions layout.now image.now) image.now layout.now) text.old at text.new result × (result ≤ most_list) }
 {
-    Listed {
-        answer: Reply::Done,
-        length: item_lines(text, at, image, partitions, layout),
-    }
+    item_lines(text, at, image, partitions, layout)
 }
 
 // The list of a board whose P and table are right, by its newest partition.
 #[tactic(auto, unfolding(partition_status::specs::Said::said))]
-fn list_board(text: &mut [u8], image: &[u8], partitions: usize, layout: &[u8]) -> Listed
+fn list_board(
+    text: &mut [u8],
+    image: &[u8],
+    partitions: usize,
+    layout: &[u8],
+) -> Result<usize, Reply>
     requires { Right partitions layout.now image.now }
     ensures { Lists (list_on partitions layout.now image.now (board.newest_in partitions (length image.now / partitions) image.now)) result text.old text.new }
 {
@@ -62,29 +50,29 @@ fn list_board(text: &mut [u8], image: &[u8], partitions: usize, layout: &[u8]) -
     match partition_status::find_newest(image, partitions, size) {
         Ok(None) => {
             let begun = text::add(text, 0, b"nothing written\n");
-            list_items(text, begun, image, partitions, layout)
+            Ok(list_items(text, begun, image, partitions, layout))
         }
         Ok(Some(partition)) => {
             let status = partition_status::status_of(image, size, partition);
             let begun = add_line(text, 0, partition_line(partition, status));
-            list_items(text, begun, image, partitions, layout)
+            Ok(list_items(text, begun, image, partitions, layout))
         }
-        Err(NoRun) => refused(Reply::Statuses),
+        Err(NoRun) => Err(Reply::Statuses),
     }
 }
 
-// The list of a board. P, image and table are tested as a request tests them.
-pub fn list(text: &mut [u8], image: &[u8], partitions: usize, layout: &[u8]) -> Listed
+// The list of a board: how long it is. P, image and table are tested as a request tests them, and a list that is refused has no text.
+pub fn list(text: &mut [u8], image: &[u8], partitions: usize, layout: &[u8]) -> Result<usize, Reply>
     ensures { Lists (list_outcome partitions layout.now image.now) result text.old text.new }
 {
     if !partition_status::partitions_ok(partitions) {
-        return refused(Reply::Partitions);
+        return Err(Reply::Partitions);
     }
     if image.len() % partitions != 0 {
-        return refused(Reply::Partitions);
+        return Err(Reply::Partitions);
     }
     if !partition_layout::layout_ok(layout, image.len() / partitions) {
-        return refused(Reply::Layout);
+        return Err(Reply::Layout);
     }
     list_board(text, image, partitions, layout)
 }

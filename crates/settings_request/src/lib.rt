@@ -6,8 +6,7 @@ ghost use Rattle.partitions.specs.Answers.{write_outcome, wrote, read_outcome, t
 ghost use Rattle.settings_list.specs.BoardList.{list_outcome};
 ghost use Rattle.settings_list.specs.Listing.{Lists};
 
-use partitions::{Spot, Written};
-use settings_list::Listed;
+use partitions::{Reply, Spot, Written};
 use settings_words::Command;
 
 // Writes the command's item.
@@ -32,7 +31,7 @@ pub fn read(image: &[u8], layout: &[u8], command: Command) -> Spot
 }
 
 // Lists the board.
-pub fn list(text: &mut [u8], image: &[u8], layout: &[u8], command: Command) -> Listed
+pub fn list(text: &mut [u8], image: &[u8], layout: &[u8], command: Command) -> Result<usize, Reply>
     ensures { Lists (list_outcome command.partitions layout.now image.now) result text.old text.new }
 {
     settings_list::list(text, image, command.partitions as usize, layout)

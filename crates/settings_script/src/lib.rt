@@ -2,6 +2,7 @@
 // [--budget STEPS] [< data], or IMAGE P LAYOUT list.
 #![tactic(auto)]
 
+use qbx_out::{Console, Program};
 use qbx_script_words::word;
 use qbx_system::{STDOUT_FILENO, System};
 
@@ -24,8 +25,7 @@ fn obey(system: &mut System, line: &[u8], contents: &[u8]) {
                 layout,
                 command,
                 contents,
-                STDOUT_FILENO,
-                STDOUT_FILENO,
+                Console::joined(Program::Settings),
             );
         }
         Err(complaint) => settings_work::complain(complaint, STDOUT_FILENO),

@@ -2,7 +2,7 @@
 // asked, the image's file replaced and the answer said.
 #![tactic(auto)]
 
-use qbx_out::print;
+use qbx_out::{Console, fail, give, print, save, send};
 use qbx_same::Clash;
 use qbx_share_file::WrongLine;
 use qbx_system::System;
@@ -20,11 +20,6 @@ const MOST_TEXT: usize = 4096;
 // `settings_item_lines`.
 const MOST_LAYOUT: usize = 512;
 
-// Says what could not be done with a file.
-fn fail(system: &System, fd: i32, what: &[u8], path: &[u8]) {
-    qbx_out::fail_as(system, b"settings", fd, what, path);
-}
-
 // Says what is wrong with a command's words.
 pub fn complain(complaint: Complaint, err: i32) {
     print(err, settings_says::say_complaint(complaint));
@@ -38,50 +33,34 @@ fn write(
     layout: &[u8],
     command: Command,
     contents: &[u8],
-    out: i32,
-    err: i32,
+    console: Console,
 ) {
     let there = image.len() as u64;
     let written = settings_request::write(image, layout, command, contents);
-    if written.steps > 0 {
-        if !qbx_files::replace(system, path, image) {
-            fail(system, err, b"write ", path);
-            return;
-        }
-    }
-    print(out, settings_says::say_written(written, there));
-}
-
-// The data alone go out. Where the answer goes there too, a line end keeps them apart.
-fn read(system: &mut System, image: &[u8], layout: &[u8], command: Command, out: i32, err: i32) {
-    let spot = settings_request::read(image, layout, command);
-    let answer = spot.answer;
-    let at = spot.offset;
-    let count = spot.length;
-    if !system.write_all(out, qbx_images::piece(image, at, count)) {
-        fail(system, err, b"write ", b"standard output");
+    if written.steps > 0 && !save(system, console, path, image) {
         return;
     }
-    if out == err {
-        if count > 0 {
-            io::write_all(out, b"\n");
-        }
+    print(console.out, settings_says::say_written(written, there));
+}
+
+// The data alone go out, and the answer with what is wrong.
+fn read(system: &mut System, image: &[u8], layout: &[u8], command: Command, console: Console) {
+    let spot = settings_request::read(image, layout, command);
+    let data = qbx_images::piece(image, spot.offset, spot.length);
+    if give(system, console, data) {
+        print(console.err, say_answer(spot.answer, image.len() as u64));
     }
-    print(err, say_answer(answer, image.len() as u64));
 }
 
 // The text alone goes out; what refuses it is told with what is wrong.
-fn list(system: &mut System, image: &[u8], layout: &[u8], command: Command, out: i32, err: i32) {
+fn list(system: &mut System, image: &[u8], layout: &[u8], command: Command, console: Console) {
     let mut text = [0u8; MOST_LIST];
     let listed = settings_request::list(&mut text, image, layout, command);
-    let answer = listed.answer;
-    let n = listed.length;
-    if u64::from(answer) != 0 {
-        print(err, say_answer(answer, image.len() as u64));
-        return;
-    }
-    if !system.write_all(out, &text[..n]) {
-        fail(system, err, b"write ", b"standard output");
+    match listed {
+        Ok(n) => {
+            send(system, console, &text[..n]);
+        }
+        Err(answer) => print(console.err, say_answer(answer, image.len() as u64)),
     }
 }
 
@@ -93,14 +72,12 @@ fn act(
     layout: &[u8],
     command: Command,
     contents: &[u8],
-    out: i32,
-    err: i32,
+    console: Console,
 ) {
-    let verb = command.verb;
-    match verb {
-        Verb::Read => read(system, &image[..], layout, command, out, err),
-        Verb::Write => write(system, image, path, layout, command, contents, out, err),
-        Verb::List => list(system, &image[..], layout, command, out, err),
+    match command.verb {
+        Verb::Read => read(system, &image[..], layout, command, console),
+        Verb::Write => write(system, image, path, layout, command, contents, console),
+        Verb::List => list(system, &image[..], layout, command, console),
     }
 }
 
@@ -112,16 +89,18 @@ fn work(
     layout: &[u8],
     command: Command,
     contents: &[u8],
-    out: i32,
-    err: i32,
+    console: Console,
 ) {
     let Some(file) = qbx_images::present(system, image, path, 0, false) else {
-        fail(system, err, b"read ", path);
+        fail(system, console, b"read ", path);
         return;
     };
     let n = file.count;
     if n > MOST_IMAGE {
-        io::write_all(err, b"settings: IMAGE is longer than 1048576 bytes\n");
+        io::write_all(
+            console.err,
+            b"settings: IMAGE is longer than 1048576 bytes\n",
+        );
         return;
     }
     act(
@@ -131,8 +110,7 @@ fn work(
         layout,
         command,
         contents,
-        out,
-        err,
+        console,
     );
 }
 
@@ -142,13 +120,10 @@ fn on_image(
     layout: &[u8],
     command: Command,
     contents: &[u8],
-    out: i32,
-    err: i32,
+    console: Console,
 ) {
     let mut image = [255u8; MOST_IMAGE + 1];
-    work(
-        system, &mut image, path, layout, command, contents, out, err,
-    );
+    work(system, &mut image, path, layout, command, contents, console);
 }
 
 // A command with the file of the layout read.
@@ -158,24 +133,23 @@ fn on_layout(
     layout_path: &[u8],
     command: Command,
     contents: &[u8],
-    out: i32,
-    err: i32,
+    console: Console,
 ) {
     let mut text = [0u8; MOST_TEXT + 1];
     let Some(file) = qbx_images::present(system, &mut text, layout_path, 0, false) else {
-        fail(system, err, b"read ", layout_path);
+        fail(system, console, b"read ", layout_path);
         return;
     };
     let n = file.count;
     if n > MOST_TEXT {
-        io::write_all(err, b"settings: LAYOUT is longer than 4096 bytes\n");
+        io::write_all(console.err, b"settings: LAYOUT is longer than 4096 bytes\n");
         return;
     }
     let mut layout = [0u8; MOST_LAYOUT];
     let listing = settings_layout_file::read_layout(&text[..n], &mut layout);
     match listing {
-        Ok(count) => on_image(system, path, &layout[..count], command, contents, out, err),
-        Err(WrongLine(line)) => print(err, settings_says::say_wrong_line(line)),
+        Ok(count) => on_image(system, path, &layout[..count], command, contents, console),
+        Err(WrongLine(line)) => print(console.err, settings_says::say_wrong_line(line)),
     }
 }
 
@@ -188,20 +162,19 @@ pub fn obey(
     layout_path: &[u8],
     command: Command,
     contents: &[u8],
-    out: i32,
-    err: i32,
+    console: Console,
 ) {
     let clash = qbx_same::clash_of(system, layout_path, path);
     if let Clash::IsSource = clash {
-        io::write_all(err, b"settings: LAYOUT is IMAGE: name another\n");
+        io::write_all(console.err, b"settings: LAYOUT is IMAGE: name another\n");
         return;
     }
     if let Clash::SourceBeside = clash {
         io::write_all(
-            err,
+            console.err,
             b"settings: LAYOUT is the file that is written beside IMAGE: name another\n",
         );
         return;
     }
-    on_layout(system, path, layout_path, command, contents, out, err);
+    on_layout(system, path, layout_path, command, contents, console);
 }

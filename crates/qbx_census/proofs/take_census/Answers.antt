@@ -15,7 +15,7 @@ pub loop-i-init : goal.loop-i-init
 unfolding census_of
 loop-i-init c =
     let a = c.args in
-    let l = set_aside a.aside (segments_of a.segments a.slots a.image.now) in
+    let l = set_aside a.aside (segments_of a.geometry.segments a.geometry.slots a.image.now) in
     (omega arith, omega arith, refl)
 
 pub count_segment-census-requires : goal.count_segment-census-requires
@@ -25,13 +25,13 @@ count_segment-census-requires c =
 pub loop-i-preserved : goal.loop-i-preserved
 loop-i-preserved c =
     let a = c.args in
-    let l = segments_of a.segments a.slots a.image.now in
+    let l = segments_of a.geometry.segments a.geometry.slots a.image.now in
     let m = set_aside a.aside l in
-    let n : c.loop-i.i < length m = omega (arith, aside_length a.segments a.slots a.image.now a.aside, c.loop-i-test.true) in
+    let n : c.loop-i.i < length m = omega (arith, aside_length a.geometry.segments a.geometry.slots a.image.now a.aside, c.loop-i-test.true) in
     let e : (c.if-i-aside.census ≡ count_segment c.loop-i.census (get_or m c.loop-i.i blank)) × (total c.if-i-aside.census ≤ total c.loop-i.census + 256) =
     elim c.if-i-aside.branch [
       | then-i-aside w ↦ (w.census-is ∙ (w.count_segment-census.ensures.0 ∙ aside_other l c.loop-i.i a.aside c.loop-i.census w.if-i-aside.true), omega (arith, ap total w.census-is, w.count_segment-census.ensures.1))
-      | else-i-aside w ↦ (w.census-is ∙ aside_there l c.loop-i.i a.aside c.loop-i.census (omega (arith, segments_length a.segments a.slots a.image.now, c.loop-i-test.true)) (omega (arith, w.if-i-aside.false)), omega (arith, ap total w.census-is))
+      | else-i-aside w ↦ (w.census-is ∙ aside_there l c.loop-i.i a.aside c.loop-i.census (omega (arith, segments_length a.geometry.segments a.geometry.slots a.image.now, c.loop-i-test.true)) (omega (arith, w.if-i-aside.false)), omega (arith, ap total w.census-is))
     ] in (
       omega arith,
       omega (arith, e.1, c.loop-i.invariant.1),
@@ -41,6 +41,6 @@ loop-i-preserved c =
 pub returns : goal.returns
 returns c =
     let a = c.args in
-    let m = set_aside a.aside (segments_of a.segments a.slots a.image.now) in
-    let n : length m ≤ c.loop-i.i = omega (arith, aside_length a.segments a.slots a.image.now a.aside, c.loop-i-test.false) in
+    let m = set_aside a.aside (segments_of a.geometry.segments a.geometry.slots a.image.now) in
+    let n : length m ≤ c.loop-i.i = omega (arith, aside_length a.geometry.segments a.geometry.slots a.image.now a.aside, c.loop-i-test.false) in
     sym (segments_end m c.loop-i.i c.loop-i.census n) ∙ c.loop-i.invariant.2

@@ -8,5 +8,5 @@ use Rattle.qbx_census.proofs.take_census.Given as goal
 
 abbrev pub invariant-loop-i : goal.invariant-loop-i
 invariant-loop-i l =
-    let m = set_aside l.aside (segments_of l.segments l.slots l.image) in
-    (l.i ≤ l.segments) × (total l.census ≤ l.i * 256) × (count_segments l.census (drop l.i m) ≡ census_of m)
+    let m = set_aside l.aside (segments_of l.geometry.segments l.geometry.slots l.image) in
+    (l.i ≤ l.geometry.segments) × (total l.census ≤ l.i * 256) × (count_segments l.census (drop l.i m) ≡ census_of m)

@@ -17,9 +17,9 @@ nonzero_rem-result c = let r = right_size_lem _ _ _ c.requires in omega (arith, 
 pub returns-in_default : goal.returns-in_default
 returns-in_default c =
     let a = c.args in
-    sym (aside_none a.segments (segments_of a.segments a.slots a.image.now) a.condition c.in_default.not-UnfinishedB)
+    sym (aside_none a.geometry.segments (segments_of a.geometry.segments a.geometry.slots a.image.now) a.condition c.in_default.not-UnfinishedB)
 
 pub returns : goal.returns
 returns c =
     let a = c.args in
-    aside_next a.segments a.slots a.image.now (right_size_lem _ _ _ c.requires).0.some _ c.see_headers-seen.ensures.0 a.condition c.in-UnfinishedB.is
+    aside_next a.geometry.segments a.geometry.slots a.image.now (right_size_lem _ _ _ c.requires).0.some _ c.see_headers-seen.ensures.0 a.condition c.in-UnfinishedB.is

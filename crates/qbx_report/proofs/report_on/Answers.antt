@@ -14,6 +14,6 @@ unfolding report_of
 returns c =
     let k = c.condition_of-condition in
     let a = c.args in
-    let l = segments_of a.segments a.slots a.image.now in
-    let t = census_shown a.segments l a.slots (segments_length a.segments a.slots a.image.now) k.result k.ensures c.left_aside-aside.result c.left_aside-aside.ensures c.take_census-census.result c.take_census-census.ensures in
+    let l = segments_of a.geometry.segments a.geometry.slots a.image.now in
+    let t = census_shown a.geometry.segments l a.geometry.slots (segments_length a.geometry.segments a.geometry.slots a.image.now) k.result k.ensures c.left_aside-aside.result c.left_aside-aside.ensures c.take_census-census.result c.take_census-census.ensures in
     rw (k.ensures, t, c.see_top-top.ensures)

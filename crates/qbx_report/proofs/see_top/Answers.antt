@@ -11,7 +11,7 @@ see_headers-seen-requires c =
 pub returns-then-seen-eq0 : goal.returns-then-seen-eq0
 returns-then-seen-eq0 c =
     let a = c.args in
-    top_missing a.segments a.slots a.image.now (right_size_lem _ _ _ c.requires).0.some _ c.see_headers-seen.ensures.0 c.if-seen-eq0.true
+    top_missing a.geometry.segments a.geometry.slots a.image.now (right_size_lem _ _ _ c.requires).0.some _ c.see_headers-seen.ensures.0 c.if-seen-eq0.true
 
 pub tally_in-told-requires : goal.tally_in-told-requires
 tally_in-told-requires c = (right_size_lem _ _ _ c.requires).0
@@ -20,12 +20,12 @@ pub returns-then-told : goal.returns-then-told
 returns-then-told c =
     let a = c.args in
     let t = c.tally_in-told in
-    let k = top_told_lem a.segments a.slots a.image.now (right_size_lem _ _ _ c.requires).0.some _ c.see_headers-seen.ensures.0 c.if-seen-eq0.false t.result t.ensures.0 in
+    let k = top_told_lem a.geometry.segments a.geometry.slots a.image.now (right_size_lem _ _ _ c.requires).0.some _ c.see_headers-seen.ensures.0 c.if-seen-eq0.false t.result t.ensures.0 in
     rw c.if-told.true at k
 
 pub returns : goal.returns
 returns c =
     let a = c.args in
     let t = c.tally_in-told in
-    let k = top_told_lem a.segments a.slots a.image.now (right_size_lem _ _ _ c.requires).0.some _ c.see_headers-seen.ensures.0 c.if-seen-eq0.false t.result t.ensures.0 in
+    let k = top_told_lem a.geometry.segments a.geometry.slots a.image.now (right_size_lem _ _ _ c.requires).0.some _ c.see_headers-seen.ensures.0 c.if-seen-eq0.false t.result t.ensures.0 in
     rw c.if-told.false at k
