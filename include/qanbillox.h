@@ -9,7 +9,7 @@
  * answers QBX_CUT. Recover before the next request then, as after any loss of power; but a format, a move or a rebuild
  * that was cut is begun again.
  *
- * No function allocates, keeps a pointer or has state of its own. A request takes at most 15,112 bytes of stack on
+ * No function allocates, keeps a pointer or has state of its own. A request takes at most 15,392 bytes of stack on
  * x86-64, the account 348,688 bytes, a move 277,152, a salvage 399,840, a rebuild 399,888, measured up to n = 255
  * and b = 255 (bench/stack.c). Link with libqanbillox.a. */
 #ifndef QANBILLOX_H
