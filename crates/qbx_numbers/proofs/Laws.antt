@@ -22,9 +22,6 @@ unfolding number_of
 read_none [] e = refl
 read_none (b ∷ s) e = absurd (omega arith)
 
-yes_no : {d : ℕ} → Some d ≡ None → ⊥
-yes_no e = cc
-
 given : (t : Bool) (d n : ℕ) → Some d ≡ cond t (Some n) None → (t ≡ true) × (d ≡ n)
 given true d n e = (refl, cc)
 given false d n e = absurd cc

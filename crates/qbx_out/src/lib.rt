@@ -1,7 +1,7 @@
 // What the programs say, written out, and what they hand on, to its file or out.
 #![tactic(auto)]
 
-ghost use Rattle.std.specs.Prelude.{◌<◌, ◌≤◌};
+ghost use Rattle.std.specs.Prelude.{◌≡◌, ◌<◌, ◌≤◌, pos};
 ghost use Rattle.qbx_lines.specs.Lines.{most_line};
 
 use qbx_lines::Line;
@@ -25,7 +25,9 @@ pub struct Console {
 
 impl Console {
     // What is wrong goes apart from what is said.
-    pub fn apart(program: Program) -> Console {
+    pub fn apart(program: Program) -> Console
+        ensures { result ≡ record { program = program; out = pos 1; err = pos 2 } }
+    {
         Console {
             program,
             out: STDOUT_FILENO,
@@ -34,7 +36,9 @@ impl Console {
     }
 
     // All goes to standard output, as it comes.
-    pub fn joined(program: Program) -> Console {
+    pub fn joined(program: Program) -> Console
+        ensures { result ≡ record { program = program; out = pos 1; err = pos 1 } }
+    {
         Console {
             program,
             out: STDOUT_FILENO,
