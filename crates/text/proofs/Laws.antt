@@ -1,12 +1,11 @@
 -- Pieces of a text in a buffer: one byte more, two pieces in a row; and the digits of a number.
-use Prim.Native.Nat.{ℕ, zero, suc, ◌+◌, ◌-◌, ◌*◌, ◌/◌, ◌%◌, ◌^◌, ◌<◌, ◌≤◌}
+use Prim.Native.Nat.{ℕ, zero, suc, ◌+◌, ◌*◌, ◌/◌, ◌%◌, ◌^◌, ◌<◌, ◌≤◌}
 use mathlib.Core.Path.{◌≡◌, refl, sym, ap, ◌∙◌, subst}
 use mathlib.Core.Bool.{Bool, true, false, cond}
 use mathlib.Core.List.{List, [], ◌∷◌, ◌++◌, append_assoc}
 use native.Mathlib.Omega.{arith}
 use native.Mathlib.Nat.{mod-eq_of_lt, pow-suc}
-use borrow.Rule.Slice.PartMut.{put_mid}
-use lib.ListN.{length, take, drop, set, length-append, length-take, length-drop, take-append-drop}
+use lib.ListN.{length, take, drop, set, get_or, length-append, take-append-drop}
 use lib.Seq.{paste-suc, drop-drop, length-take-le, take_at, drop_at, drop-cons}
 use lib.Dec.{leb, ltb}
 use borrow.Author.Tests.{lt-ltb, le-ltb, le-leb, lt-leb, ltb-true, ltb-false}
@@ -59,18 +58,20 @@ wrote_none start at = record { ends = omega arith; kept = refl; there = λ h. sy
 pub wrote_as : {x start buffer : List ℕ} {at end : ℕ} (y : List ℕ) → x ≡ y → Wrote x start at buffer end → Wrote y start at buffer end
 wrote_as {x} {start} {buffer} {at} {end} y e w = subst (λ (z : List ℕ). Wrote z start at buffer end) e w
 
--- ---- bytes copied
+-- ---- bytes copied, one by one
 
-pub over_length : (d : List ℕ) (at : ℕ) (x : List ℕ) → at + length x ≤ length d → length (over d at x) ≡ length d
-unfolding over
-over_length d at x h = simp (length-append, length-take, length-drop) (omega arith)
+pub copy_none : (d : List ℕ) (at : ℕ) (s : List ℕ) → d ≡ over d at (take 0 s)
+copy_none d at s = sym (over_none d at)
 
-pub put_over : (d : List ℕ) (at : ℕ) (x y : List ℕ) → y ≡ x → put_mid at (at + length x - at) d y ≡ over d at x
+pub copy_more : (d : List ℕ) (at : ℕ) (s : List ℕ) (j : ℕ) → j < length s → at + length s ≤ length d → set (over d at (take j s)) (at + j) (get_or s j 0) ≡ over d at (take (j + 1) s)
 unfolding over
-put_over d at x y e =
-    let f : at + (at + length x - at) ≡ at + length x = omega arith in
-    ap (λ (z : List ℕ). take at d ++ (z ++ drop (at + length x - at) (drop at d))) e
-    ∙ ap (λ (z : List ℕ). take at d ++ (x ++ z)) (drop-drop (at + length x - at) at d ∙ ap (λ (k : ℕ). drop k d) f)
+copy_more d at s j h k =
+    let a : length (take j s) ≡ j = length-take-le j s (omega arith) in
+    let b : length (take (suc j) s) ≡ suc j = length-take-le (suc j) s (omega arith) in
+    let e : j + 1 ≡ suc j = omega arith in
+    let p : take at d ++ take j s ++ drop (at + j) d ≡ take at d ++ (take j s ++ drop (at + j) d) = append_assoc (take at d) (take j s) (drop (at + j) d) in
+    let q : take at d ++ take (suc j) s ++ drop (at + suc j) d ≡ take at d ++ (take (suc j) s ++ drop (at + suc j) d) = append_assoc (take at d) (take (suc j) s) (drop (at + suc j) d) in
+    rw (e, a, b) (ap (λ (z : List ℕ). set z (at + j) (get_or s j 0)) (sym p) ∙ (paste-suc d at s j 0 (omega arith) h ∙ q))
 
 -- ---- digits
 

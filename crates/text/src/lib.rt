@@ -25,7 +25,9 @@ pub fn add(text: &mut [u8], at: usize, bytes: &[u8]) -> usize
     if end > text.len() {
         return end;
     }
-    text[at..end].copy_from_slice(bytes);
+    for i in 0..bytes.len() {
+        text[at + i] = bytes[i];
+    }
     end
 }
 
