@@ -2,11 +2,12 @@
 use Prim.Native.Nat.{ℕ, zero, suc, ◌+◌, ◌-◌, ◌*◌, ◌/◌, ◌%◌, ◌≤◌, ◌<◌}
 use mathlib.Core.Path.{◌≡◌, refl, sym, ap, ◌∙◌}
 use mathlib.Core.Logic.{⊎_elim}
-use mathlib.Core.Bool.{Bool, true, false, not, ◌&&◌, and-false, and_assoc}
+use mathlib.Core.Bool.{Bool, true, false, ◌&&◌, and-false, and_assoc}
 use mathlib.Core.List.{List, [], ◌∷◌, ◌++◌}
+use native.Mathlib.Numerals.{add-one}
 use native.Mathlib.Omega.{arith}
-use lib.ListN.{length, get_or, take, drop, length-drop}
-use lib.Seq.{drop-drop, take_all}
+use lib.ListN.{length, get_or, take, drop, length-drop, drop_of_length-le}
+use lib.Seq.{drop-cons, drop-drop, take_all}
 use lib.Dec.{ltb, eqb}
 use borrow.Author.Tests.{eq-eqb, ne_eqb, lt-ltb, le-ltb}
 use Rattle.model.specs.Lists.{same}
@@ -18,7 +19,6 @@ use Rattle.header.specs.Parts.{header_total, header_fields}
 use Rattle.header.proofs.Laws.Tests.{four_bytes, either_version}
 use Rattle.header_seen.specs.Seen.{header_seen, tally_fits}
 use Rattle.std.specs.Prelude.{Some, None}
-use Rattle.std.specs.Cmp.Lexicographic.{pointwise}
 
 -- ---- numbers
 
@@ -34,22 +34,17 @@ value_bytes a b c d ha hb hc hd = simp (low_digit, other_digits)
 
 -- ---- two runs of bytes compared
 
-same_is : (a b : List ℕ) → pointwise eqb a b ≡ same a b
+pub same_stop : (a b : List ℕ) (i : ℕ) → length a ≡ length b → i < length a → (get_or a i 0 ≡ get_or b i 0 → ⊥) → same (drop i a) (drop i b) ≡ false
 unfolding same
-same_is [] [] = refl
-same_is [] (y ∷ b) = refl
-same_is (x ∷ a) [] = refl
-same_is (x ∷ a) (y ∷ b) = ap (λ (t : Bool). eqb x y && t) (same_is a b)
+same_stop a b i l h n = rw (drop-cons a i 0 h, drop-cons b i 0 (omega arith), ne_eqb (get_or a i 0) (get_or b i 0) n)
 
--- `!=` says whether they are not the same
-pub same_told : (r t : Bool) (a b : List ℕ) → r ≡ not (pointwise eqb a b) → r ≡ not t → t ≡ same a b
-same_told r t a b e q = not_same _ _ (sym q ∙ e) ∙ same_is a b
-  where
-    not_same : (x y : Bool) → not x ≡ not y → x ≡ y
-    not_same true true h = refl
-    not_same true false h = sym h
-    not_same false true h = sym h
-    not_same false false h = refl
+pub same_next : (a b : List ℕ) (i : ℕ) → length a ≡ length b → i < length a → get_or a i 0 ≡ get_or b i 0 → same (drop i a) (drop i b) ≡ same (drop (i + 1) a) (drop (i + 1) b)
+unfolding same
+same_next a b i l h e = rw (drop-cons a i 0 h, drop-cons b i 0 (omega arith), eq-eqb (get_or a i 0) (get_or b i 0) e, add-one)
+
+pub same_end : (a b : List ℕ) (i : ℕ) → length a ≡ length b → length a ≤ i → same (drop i a) (drop i b) ≡ true
+unfolding same
+same_end a b i l h = let k : length b ≤ i = omega arith in rw (drop_of_length-le a h, drop_of_length-le b k)
 
 -- ---- status
 

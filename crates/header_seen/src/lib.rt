@@ -2,6 +2,7 @@
 #![tactic(auto)]
 
 ghost use Rattle.std.specs.Prelude.{◌≡◌, ◌<◌, ◌≤◌, length};
+ghost use Rattle.model.specs.Lists.{same};
 ghost use Rattle.model.specs.Header.{header_in_use, old_index, status_in_use};
 ghost use Rattle.header_seen.specs.Seen.{tally_fits, header_seen};
 
@@ -14,6 +15,20 @@ pub struct HeaderInUse {
     pub former: bool,
     pub status: u8,
     pub number: SegmentNumber,
+}
+
+// Whether two runs of bytes are the same.
+// Kept: with `!=` of slices the compiler makes up all 256 bytes of the page to compare with, in a frame of its own.
+fn same_bytes(a: &[u8], b: &[u8]) -> bool
+    requires { length a.now ≡ length b.now }
+    ensures { result ≡ same a.now b.now }
+{
+    for i in 0..a.len() {
+        if a[i] != b[i] {
+            return false;
+        }
+    }
+    true
 }
 
 // The index of the old segment in a header in use: the one after its own, or none.
@@ -80,7 +95,7 @@ pub fn header_in_use(page: &[u8], geometry: Geometry, index: usize) -> bool
         number,
         old_index(geometry.segments, index, status),
     );
-    if page[0..FIELDS] != fitting[0..FIELDS] {
+    if !same_bytes(&page[0..FIELDS], &fitting[0..FIELDS]) {
         return false;
     }
     tally_fits(page)

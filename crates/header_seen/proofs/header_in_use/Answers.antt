@@ -3,7 +3,7 @@ use mathlib.Core.Path.{sym, ◌∙◌}
 use mathlib.Core.Bool.{true, false}
 use native.Mathlib.Omega.{arith}
 use native.Mathlib.Nat.{mod-lt}
-use Rattle.header_seen.proofs.Laws.{same_told, unused_status, unused_number, unused_index, used_page}
+use Rattle.header_seen.proofs.Laws.{unused_status, unused_number, unused_index, used_page}
 use Rattle.header_seen.proofs.header_in_use.Goals as goal
 
 pub returns-then-not-status_in_use : goal.returns-then-not-status_in_use
@@ -26,10 +26,10 @@ returns c =
     let used = sym c.status_in_use.ensures ∙ c.if-not-status_in_use.false in
     c.tally_fits.ensures
     ∙ sym (used_page _ _ _ _ _ _ _ _ true (λ i. omega (arith, c.type_inv.page i)) used c.header_number-number.ensures (omega arith) c.if-n-geometry-2.false c.is_former.ensures
-    c.old_index.ensures c.header_fields-fitting.ensures c.requires.0 (same_told _ true _ _ c.ne.ensures c.if-ne.false))
+    c.old_index.ensures c.header_fields-fitting.ensures c.requires.0 (sym c.if-not-same_bytes.false ∙ c.same_bytes.ensures))
 
-pub returns-then-ne : goal.returns-then-ne
-returns-then-ne c =
+pub returns-then-not-same_bytes : goal.returns-then-not-same_bytes
+returns-then-not-same_bytes c =
     let used = sym c.status_in_use.ensures ∙ c.if-not-status_in_use.false in
     sym (used_page _ _ _ _ _ _ _ _ false (λ i. omega (arith, c.type_inv.page i)) used c.header_number-number.ensures (omega arith) c.if-n-geometry-2.false c.is_former.ensures
-    c.old_index.ensures c.header_fields-fitting.ensures c.requires.0 (same_told _ false _ _ c.ne.ensures c.if-ne.true))
+    c.old_index.ensures c.header_fields-fitting.ensures c.requires.0 (sym c.if-not-same_bytes.true ∙ c.same_bytes.ensures))
