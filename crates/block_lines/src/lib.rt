@@ -39,7 +39,9 @@ fn block_line(text: &mut [u8], at: usize, block: u32, length: u32, segment: u32,
 }
 
 // One for each live slot of a block, from the first page on. The image is named by the contract alone: what is written
-// comes from the tables.
+// comes from the tables. It is never made part of its caller: there the two loops share their test, and passing over the blocks
+// that are not stored takes twice the time.
+#[inline(never)]
 fn chain_lines(
     image: &[u8],
     geometry: Geometry,
