@@ -157,6 +157,7 @@ impl System {
     // The same of a word that says a number or a verb, in a buffer of its own. Of one that is too long the start is given, with dots, so
     // that it means nothing.
     pub fn word<'a>(&mut self, i: usize, buf: &'a mut [u8; 64]) -> &'a [u8]
+        ensures within { length result.now ≤ 64 }
         ensures dotted { self.new.reason ≡ pos 36 → drop 61 result.now ≡ 46 ∷ 46 ∷ 46 ∷ [] }
     {
         let n = self.arg(i, buf);

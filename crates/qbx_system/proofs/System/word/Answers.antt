@@ -11,5 +11,5 @@ ends xs ys e =
     let n : drop 3 (drop 61 xs) ≡ [] = drop_of_length-le (drop 61 xs) h in
     ap (λ (k : ℕ). drop k (take 61 xs ++ (ys ++ drop 3 (drop 61 xs)))) (sym t) ∙ (drop-append_seam (take 61 xs) (ys ++ drop 3 (drop 61 xs)) ∙ rw (n, append-nil) refl)
 
-pub returns-then-self-eq-ENAMETOOLONG : goal.returns-then-self-eq-ENAMETOOLONG
-returns-then-self-eq-ENAMETOOLONG c = record { dotted = λ h. ends c.arg-n.new.buf c.copy_from_slice.new.self (omega arith) ∙ c.copy_from_slice.ensures.after }
+pub returns-then-self-eq-ENAMETOOLONG-clause-dotted : goal.returns-then-self-eq-ENAMETOOLONG-clause-dotted
+returns-then-self-eq-ENAMETOOLONG-clause-dotted c = λ h. ends c.arg-n.new.buf c.copy_from_slice.new.self (omega arith) ∙ c.copy_from_slice.ensures.after
