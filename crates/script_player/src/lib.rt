@@ -1,16 +1,14 @@
-// Plays a script of commands, one to a line, each as a program of this name would obey it. All that is said goes to standard output, so
-// that a whole story is one output to compare.
+// Plays a script of commands, one to a line, each as a program would obey it. All that is said goes to standard output, so that a whole
+// story is one output to compare.
 #![tactic(auto)]
 
 use qbx_system::{STDOUT_FILENO, System};
 
-// The words of a command, and what stands behind '<'.
-fn step<F: Fn(&mut System, &[u8], &[u8])>(system: &mut System, name: &[u8], line: &[u8], obey: &F)
+// The words of a command, behind a prompt that ends in the program's name, and what stands behind '<'.
+fn step<F: Fn(&mut System, &[u8], &[u8])>(system: &mut System, prompt: &[u8], line: &[u8], obey: &F)
     requires { F.IsAlwaysCallable obey.now }
 {
-    io::write_all(STDOUT_FILENO, b"$ ");
-    io::write_all(STDOUT_FILENO, name);
-    io::write_all(STDOUT_FILENO, b" ");
+    io::write_all(STDOUT_FILENO, prompt);
     io::write_all(STDOUT_FILENO, line);
     io::write_all(STDOUT_FILENO, b"\n");
     let end = byte_search::find(line, 0, line.len(), b'<');
@@ -23,7 +21,7 @@ fn step<F: Fn(&mut System, &[u8], &[u8])>(system: &mut System, name: &[u8], line
 }
 
 // The script is on standard input. One that cannot be read to its end is played as far as it was.
-pub fn play<F: Fn(&mut System, &[u8], &[u8])>(rt: HostRuntime, name: &[u8], obey: F)
+pub fn play<F: Fn(&mut System, &[u8], &[u8])>(rt: HostRuntime, prompt: &[u8], obey: F)
     requires { F.IsAlwaysCallable obey }
 {
     let mut system = System::new(rt);
@@ -32,6 +30,6 @@ pub fn play<F: Fn(&mut System, &[u8], &[u8])>(rt: HostRuntime, name: &[u8], obey
     let (Ok(n) | Err(n)) = qbx_files::fill(&mut system, &mut input, &mut script);
     for line in script[..n].split_inclusive(|b| *b == b'\n') {
         let line = line.strip_suffix(b"\n").unwrap_or(line);
-        step(&mut system, name, line, &obey);
+        step(&mut system, prompt, line, &obey);
     }
 }

@@ -34,5 +34,5 @@ fn obey(system: &mut System, line: &[u8], contents: &[u8]) {
 
 // The script is on standard input.
 pub fn play(rt: HostRuntime) {
-    script_player::play(rt, b"settings", obey);
+    script_player::play(rt, b"$ settings ", obey);
 }
