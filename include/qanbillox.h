@@ -9,8 +9,8 @@
  * answers QBX_CUT. Recover before the next request then, as after any loss of power; but a format, a move or a rebuild
  * that was cut is begun again.
  *
- * No function allocates, keeps a pointer or has state of its own. A request takes at most 15,392 bytes of stack on
- * x86-64, the account 348,688 bytes, a move 277,152, a salvage 399,840, a rebuild 399,888, measured up to n = 255
+ * No function allocates, keeps a pointer or has state of its own. A request takes at most 15,128 bytes of stack on
+ * x86-64, the account 348,424 bytes, a move 276,888, a salvage 399,576, a rebuild 399,624, measured up to n = 255
  * and b = 255 (bench/stack.c). Link with libqanbillox.a. */
 #ifndef QANBILLOX_H
 #define QANBILLOX_H
@@ -139,7 +139,7 @@ uint64_t qbx_mounted_read(const uint8_t *image, size_t image_length, size_t n, s
  * recovery does not help: begin the move again. The source is only read. Source and target must not overlap.
  *
  * The steps are target_n + 21, 5 + length for each record, and 21 for each further segment that the records need. It
- * takes 277,152 bytes of stack: the table that puts the records in order is there. */
+ * takes 276,888 bytes of stack: the table that puts the records in order is there. */
 uint64_t qbx_move(const uint8_t *source, size_t source_length, size_t n, size_t b,
                   uint8_t *target, size_t target_length, size_t target_n, size_t target_b, uint64_t budget);
 
@@ -164,7 +164,7 @@ uint64_t qbx_move(const uint8_t *source, size_t source_length, size_t n, size_t 
  *
  * Answers QBX_DONE, the bytes after the text untouched, or QBX_SHORT_BUFFER, exactly if the text is longer than the
  * buffer, all of which is then untouched. The image is only read, and must not overlap the buffer. The longest text has
- * 2,220 bytes with n = 4 and b = 15, 581,576 with 64 and 255, 2,364,768 with 255 and 255. It takes 348,688 bytes of
+ * 2,220 bytes with n = 4 and b = 15, 581,576 with 64 and 255, 2,364,768 with 255 and 255. It takes 348,424 bytes of
  * stack: the tables that put the blocks in order are there. */
 uint64_t qbx_account(const uint8_t *image, size_t image_length, size_t n, size_t b, uint8_t *text, size_t text_length);
 
@@ -198,7 +198,7 @@ static inline size_t qbx_account_length(size_t n, size_t b) {
  * Answers QBX_DONE, the bytes after the text untouched; QBX_SIZE; or QBX_SHORT_BUFFER, exactly if the text is longer
  * than the buffer. Refused, all of the buffer is untouched. The image is only read, and must not overlap the buffer.
  * The longest text has 2,329 bytes with n = 4 and b = 15, 659,683 with 64 and 255, 2,665,505 with 255 and 255. It takes
- * 399,840 bytes of stack, 384 KiB of them the tables that put the blocks in order. */
+ * 399,576 bytes of stack, 384 KiB of them the tables that put the blocks in order. */
 uint64_t qbx_salvage(const uint8_t *image, size_t image_length, size_t n, size_t b, uint8_t *text, size_t text_length);
 
 /* A length that no salvage of this geometry exceeds: as many lines as there are slots, each as long as they get. (One
@@ -220,7 +220,7 @@ static inline size_t qbx_salvage_length(size_t n, size_t b) {
  * not overlap.
  *
  * The steps are target_n + 21, 5 + length for each record, and 21 for each further segment that the records need. It
- * takes 399,888 bytes of stack. */
+ * takes 399,624 bytes of stack. */
 uint64_t qbx_rebuild(const uint8_t *source, size_t source_length, size_t n, size_t b,
                      uint8_t *target, size_t target_length, size_t target_n, size_t target_b, uint64_t budget);
 

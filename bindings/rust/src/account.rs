@@ -53,7 +53,7 @@ impl Geometry {
     /// Writes the account to the front of `text`. What follows it there is untouched, and so is all
     /// of a buffer that is too short. [`account_len`](Geometry::account_len) bytes are always enough.
     ///
-    /// It takes 348,688 bytes of stack, for tables that put the blocks in order.
+    /// It takes 348,424 bytes of stack, for tables that put the blocks in order.
     ///
     #[cfg_attr(qbx_lib, doc = "```")]
     #[cfg_attr(not(qbx_lib), doc = "```no_run")]

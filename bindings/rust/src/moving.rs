@@ -18,7 +18,7 @@ impl Geometry {
     /// [`capacity`](Geometry::capacity), [`Cut`](crate::Answer::Cut). After a cut nothing is promised of
     /// the target, and a recovery does not help: the move is begun again.
     ///
-    /// It takes 277,152 bytes of stack, for a table that puts the blocks in order.
+    /// It takes 276,888 bytes of stack, for a table that puts the blocks in order.
     ///
     #[cfg_attr(qbx_lib, doc = "```")]
     #[cfg_attr(not(qbx_lib), doc = "```no_run")]
